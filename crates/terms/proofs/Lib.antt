@@ -1,0 +1,2 @@
+-- The laws that other crates use in the place of the definitions' text.
+pub mod Names

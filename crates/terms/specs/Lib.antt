@@ -1,0 +1,4 @@
+pub mod Tells
+pub mod Size
+pub mod Run
+pub mod Refusal
