@@ -15,3 +15,7 @@ badName r = eqb (r .line) 0 || ltb lineMost (r .line)
 -- two names are the same run where line and trip number agree
 unfoldable pub sameRun : Run → Run → Bool
 sameRun p q = eqb (p .line) (q .line) && eqb (p .trip) (q .trip)
+
+-- what stands where there is no run
+abbrev pub noRun : Run
+noRun = record { line = 0; trip = 0 }

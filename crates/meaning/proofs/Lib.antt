@@ -1,0 +1,3 @@
+-- The laws that other crates use in the place of the definitions' text, and the worked examples.
+pub mod Examples
+pub mod Right
