@@ -1,3 +1,5 @@
 -- The laws that other crates use in the place of the definitions' text, and the worked examples.
 pub mod Examples
+pub mod Words
+pub mod Lists
 pub mod Right
