@@ -1,0 +1,2 @@
+-- What filling a table from its start shows.
+pub mod Fill

@@ -1,0 +1,65 @@
+// One word of a section of the store, read as a number to count with.
+ghost use Prim.Native.Nat.{_^_, _≤_, _<_};
+ghost use lib.ListN.{length};
+ghost use mathlib.Core.Path.{_≡_};
+ghost use Rattle.meaning.specs.Table.{word, lineOf, numberOf, headOf, lengthOf, ownerOf, targetOf, nextOf};
+ghost use Rattle.table.specs.Within.{AtPlace, AtList, AtCell};
+
+// What stands in the head, target and next words where there is no cell or place.
+pub const NONE: usize = 4294967295;
+
+pub fn word(table: &[u32], i: usize) -> usize
+    requires { ⌜ i < length (now table) ⌝ }
+    ensures { λ r. ⌜ (r ≡ word (now (table .entry)) i) × (r < 2 ^ 32) ⌝ }
+{
+    table[i] as usize
+}
+
+pub fn line(store: &[u32], n: usize, c: usize, v: usize) -> usize
+    requires { ⌜ AtPlace n c (now store) v ⌝ }
+    ensures { λ r. ⌜ (r ≡ lineOf n c (now (store .entry)) v) × (r < 2 ^ 32) ⌝ }
+{
+    word(store, v)
+}
+
+pub fn number(store: &[u32], n: usize, c: usize, v: usize) -> usize
+    requires { ⌜ AtPlace n c (now store) v ⌝ }
+    ensures { λ r. ⌜ (r ≡ numberOf n c (now (store .entry)) v) × (r < 2 ^ 32) ⌝ }
+{
+    word(store, n + v)
+}
+
+pub fn head(store: &[u32], n: usize, c: usize, v: usize) -> usize
+    requires { ⌜ AtList n c (now store) v ⌝ }
+    ensures { λ r. ⌜ (r ≡ headOf n c (now (store .entry)) v) × (r < 2 ^ 32) ⌝ }
+{
+    word(store, 2 * n + v)
+}
+
+pub fn count(store: &[u32], n: usize, c: usize, v: usize) -> usize
+    requires { ⌜ AtList n c (now store) v ⌝ }
+    ensures { λ r. ⌜ (r ≡ lengthOf n c (now (store .entry)) v) × (r < 2 ^ 32) ⌝ }
+{
+    word(store, 3 * n + 1 + v)
+}
+
+pub fn owner(store: &[u32], n: usize, c: usize, i: usize) -> usize
+    requires { ⌜ AtCell n c (now store) i ⌝ }
+    ensures { λ r. ⌜ (r ≡ ownerOf n c (now (store .entry)) i) × (r < 2 ^ 32) ⌝ }
+{
+    word(store, 4 * n + 2 + i)
+}
+
+pub fn target(store: &[u32], n: usize, c: usize, i: usize) -> usize
+    requires { ⌜ AtCell n c (now store) i ⌝ }
+    ensures { λ r. ⌜ (r ≡ targetOf n c (now (store .entry)) i) × (r < 2 ^ 32) ⌝ }
+{
+    word(store, 4 * n + 2 + c + i)
+}
+
+pub fn next(store: &[u32], n: usize, c: usize, i: usize) -> usize
+    requires { ⌜ AtCell n c (now store) i ⌝ }
+    ensures { λ r. ⌜ (r ≡ nextOf n c (now (store .entry)) i) × (r < 2 ^ 32) ⌝ }
+{
+    word(store, 4 * n + 2 + 2 * c + i)
+}
