@@ -4,3 +4,4 @@ pub mod Words
 pub mod Lists
 pub mod Right
 pub mod Steps
+pub mod Walks
