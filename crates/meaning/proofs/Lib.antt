@@ -5,3 +5,4 @@ pub mod Lists
 pub mod Right
 pub mod Steps
 pub mod Walks
+pub mod Threaded
