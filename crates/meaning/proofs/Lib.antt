@@ -4,3 +4,6 @@ pub mod Words
 pub mod Lists
 pub mod Right
 pub mod Judged
+pub mod Steps
+pub mod Walks
+pub mod Threaded
