@@ -73,3 +73,11 @@ pub without-length : {A : Type 0} (k : ℕ) (l : List A) → k < length l → le
 without-length k [] h = absurd (omega arith)
 without-length zero (x ∷ l) h = omega arith
 without-length (suc k) (x ∷ l) h = omega (arith, without-length k l (omega arith))
+
+-- the same of a list that is told by a function
+pub first-each : {A : Type 0} (p : A → Bool) (n : ℕ) (f : ℕ → A) (v : ℕ) → v < n → p (f v) ≡ true → ((k : ℕ) → k < v → p (f k) ≡ false) → first p (each n f) ≡ v
+first-each p n f v h e g =
+    first-is p (f 0) (each n f) v (rw (each-length n f) h) (rw (each-at n f (f 0) v h) e) (λ k q. let r : k < n = omega arith in rw (each-at n f (f 0) k r) (g k q))
+
+pub none-each : {A : Type 0} (p : A → Bool) (n : ℕ) (f : ℕ → A) → ((k : ℕ) → k < n → p (f k) ≡ false) → first p (each n f) ≡ n
+none-each p n f g = first-none p (f 0) (each n f) (λ k q. let r : k < n = rw (each-length n f) at q in rw (each-at n f (f 0) k r) (g k r)) ∙ each-length n f

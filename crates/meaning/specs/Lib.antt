@@ -5,3 +5,4 @@ pub mod Soundness
 pub mod Turning
 pub mod Day
 pub mod Calls
+pub mod Promise

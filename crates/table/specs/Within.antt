@@ -5,6 +5,8 @@ use mathlib.Core.List.{List}
 use mathlib.Core.Path.{_≡_}
 use lib.ListN.{length}
 use Rattle.terms.specs.Size.{InRoom, storeWords}
+use Rattle.terms.specs.declared.run.Run.{Run}
+use Rattle.meaning.specs.Table.{lineOf, numberOf}
 
 pub record Within (n C : ℕ) (w : List ℕ) : Type 0 where
   pub room : InRoom n C
@@ -24,3 +26,7 @@ pub record AtList (n C : ℕ) (w : List ℕ) (v : ℕ) : Type 0 where
 pub record AtCell (n C : ℕ) (w : List ℕ) (i : ℕ) : Type 0 where
   pub within : Within n C w
   pub cell : i < C
+
+-- the run whose line and number stand at a place
+abbrev pub named : ℕ → ℕ → List ℕ → ℕ → Run
+named n C w v = record { line = lineOf n C w v; trip = numberOf n C w v }

@@ -3,7 +3,8 @@ ghost use Prim.Native.Nat.{_^_, _≤_, _<_};
 ghost use lib.ListN.{length};
 ghost use mathlib.Core.Path.{_≡_};
 ghost use Rattle.meaning.specs.Table.{word, lineOf, numberOf, headOf, lengthOf, ownerOf, targetOf, nextOf};
-ghost use Rattle.table.specs.Within.{AtPlace, AtList, AtCell};
+ghost use Rattle.table.specs.Within.{AtPlace, AtList, AtCell, named};
+use terms::run::Run;
 
 // What stands in the head, target and next words where there is no cell or place.
 pub const NONE: usize = 4294967295;
@@ -13,6 +14,17 @@ pub fn word(table: &[u32], i: usize) -> usize
     ensures { λ r. ⌜ (r ≡ word (now (table .entry)) i) × (r < 2 ^ 32) ⌝ }
 {
     table[i] as usize
+}
+
+// The run at a place.
+pub fn run(store: &[u32], n: usize, c: usize, v: usize) -> Run
+    requires { ⌜ AtPlace n c (now store) v ⌝ }
+    ensures { λ r. ⌜ r ≡ named n c (now (store .entry)) v ⌝ }
+{
+    Run {
+        line: store[v],
+        trip: store[n + v],
+    }
 }
 
 pub fn line(store: &[u32], n: usize, c: usize, v: usize) -> usize

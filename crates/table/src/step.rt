@@ -7,7 +7,6 @@ ghost use Rattle.meaning.specs.Table.{written, lengthOf};
 ghost use Rattle.meaning.proofs.Steps.{listed, celled, renamed, unhooked, hooked};
 ghost use Rattle.table.specs.Within.{Within, AtPlace, AtList, AtCell};
 ghost use Rattle.table.specs.Stepping.{Unhooks, Hooks};
-
 use crate::section;
 use terms::run::Run;
 
@@ -37,7 +36,15 @@ fn set_list(store: &mut [u32], n: usize, c: usize, v: usize, first: usize, many:
 }
 
 // A cell's three words.
-fn set_cell(store: &mut [u32], n: usize, c: usize, i: usize, owner: usize, target: usize, next: usize)
+fn set_cell(
+    store: &mut [u32],
+    n: usize,
+    c: usize,
+    i: usize,
+    owner: usize,
+    target: usize,
+    next: usize,
+)
     requires { ⌜ AtCell n c (now store) i × (owner < 2 ^ 32) × (target < 2 ^ 32) × (next < 2 ^ 32) ⌝ }
     ensures { λ _. ⌜ now (store .exit) ≡ celled n c (now (store .entry)) i owner target next ⌝ }
 {
@@ -60,9 +67,7 @@ pub fn unhook(store: &mut [u32], n: usize, c: usize, at: usize, v: usize, i: usi
 // Cell i goes to the front of the list of v with target t. The list's new length.
 pub fn hook(store: &mut [u32], n: usize, c: usize, i: usize, v: usize, t: usize) -> usize
     requires { ⌜ Hooks n c (now store) i v t ⌝ }
-    ensures {
-        λ r. ⌜ (r ≡ lengthOf n c (now (store .entry)) v + 1) × (now (store .exit) ≡ hooked n c (now (store .entry)) i v t) ⌝
-    }
+    ensures { λ r. ⌜ (r ≡ lengthOf n c (now (store .entry)) v + 1) × (now (store .exit) ≡ hooked n c (now (store .entry)) i v t) ⌝ }
 {
     let rest = section::head(store, n, c, v);
     let many = section::count(store, n, c, v) + 1;

@@ -1,0 +1,2 @@
+-- Laws for the calls on a sound store.
+pub mod Finding

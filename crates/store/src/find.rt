@@ -1,0 +1,77 @@
+// Finding: the place of a run, the lowest free place, and where a list has a link.
+ghost use Prim.Native.Nat.{ℕ, _≤_, _<_};
+ghost use mathlib.Core.Path.{_≡_};
+ghost use Rattle.meaning.specs.Day.{dayOf, placeOf, lowest};
+ghost use Rattle.meaning.proofs.Threaded.{Threaded};
+ghost use Rattle.store.specs.Find.{Seeks};
+ghost use Rattle.table.specs.Within.{Within};
+use table::section;
+use terms::run::Run;
+
+// The place that has the run's line and trip number, n where none has.
+pub fn place(store: &[u32], n: usize, c: usize, run: Run) -> usize
+    requires { ⌜ Within n c (now store) ⌝ }
+    ensures { λ r. ⌜ (r ≡ placeOf (dayOf n c (now (store .entry))) run) × (r ≤ n) ⌝ }
+{
+    let mut v: usize = 0;
+    while v < n {
+        if run.is(section::run(store, n, c, v)) {
+            return v;
+        }
+        v += 1;
+    }
+    n
+}
+
+// The lowest place with line 0, n where none is free.
+pub fn free_place(store: &[u32], n: usize, c: usize) -> usize
+    requires { ⌜ Within n c (now store) ⌝ }
+    ensures { λ r. ⌜ (r ≡ lowest (dayOf n c (now (store .entry)))) × (r ≤ n) ⌝ }
+{
+    let mut v: usize = 0;
+    while v < n {
+        let line = section::line(store, n, c, v);
+        if line == 0 {
+            return v;
+        }
+        v += 1;
+    }
+    n
+}
+
+// A link's cell, its position in the list counted from 0, and the position in the table of the word that names the cell.
+pub struct Spot {
+    pub cell: usize,
+    pub position: usize,
+    pub hook: usize,
+}
+
+pub enum Seen {
+    At(Spot),
+    Nowhere,
+}
+
+// Where the list of v has a link to t.
+pub fn seek(store: &[u32], n: usize, c: usize, v: usize, t: usize) -> Seen
+    requires { ⌜ Threaded n c (now store) × (v < n) ⌝ }
+    ensures { λ r. ⌜ Seeks r n c (now (store .entry)) v t ⌝ }
+{
+    let many = section::count(store, n, c, v);
+    let mut cell = section::head(store, n, c, v);
+    let mut hook = 2 * n + v;
+    let mut position: usize = 0;
+    while position < many {
+        let aim = section::target(store, n, c, cell);
+        if aim == t {
+            return Seen::At(Spot {
+                cell,
+                position,
+                hook,
+            });
+        }
+        hook = 4 * n + 2 + 2 * c + cell;
+        cell = section::next(store, n, c, cell);
+        position += 1;
+    }
+    Seen::Nowhere
+}
