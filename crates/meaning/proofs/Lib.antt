@@ -4,3 +4,5 @@ pub mod Words
 pub mod Lists
 pub mod Right
 pub mod Judged
+pub mod Times
+pub mod Chains
