@@ -6,3 +6,4 @@ pub mod Right
 pub mod Judged
 pub mod Times
 pub mod Chains
+pub mod Held
