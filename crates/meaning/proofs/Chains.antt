@@ -2,7 +2,7 @@
 -- given by where it starts, and none stands in it twice. Assumes nothing.
 use Prim.Native.Nat.{ℕ, zero, suc, _+_, _≤_, _<_}
 use mathlib.Core.List.{List, [], _∷_}
-use mathlib.Core.Logic.{_⊎_, inl, inr, ⊎-elim}
+use mathlib.Core.Logic.{⊎-elim}
 use mathlib.Core.Path.{_≡_, refl, sym, ap, _∙_, subst}
 use native.Mathlib.Omega.{arith}
 use lib.ListN.{length}
@@ -35,11 +35,12 @@ pub chain-frame : (own nxt own′ nxt′ : ℕ → ℕ) (C v x : ℕ) (l : List 
 unfolding Chain times
 chain-frame own nxt own′ nxt′ C v x [] h p = p
 chain-frame own nxt own′ nxt′ C v x (k ∷ l) h p =
-    let a = h k (omega (arith, same-self k)) in
-    (p .0,
-    p .1,
-    sym (a .0) ∙ p .2,
-    subst (λ (z : ℕ). Chain own′ nxt′ C v z l) (a .1) (chain-frame own nxt own′ nxt′ C v (nxt k) l (λ j q. h j (omega arith)) (p .3)))
+    let a = h k (omega (arith, same-self k)) in (
+      p .0,
+      p .1,
+      sym (a .0) ∙ p .2,
+      subst (λ (z : ℕ). Chain own′ nxt′ C v z l) (a .1) (chain-frame own nxt own′ nxt′ C v (nxt k) l (λ j q. h j (omega arith)) (p .3)),
+    )
 
 module _ (own nxt : ℕ → ℕ) (C : ℕ) (low : C ≤ NONE) where
   -- where a chain starts
@@ -95,6 +96,7 @@ module _ (own nxt : ℕ → ℕ) (C : ℕ) (low : C ≤ NONE) where
           let z : suc (length l) ≡ length (r .0) = ap length s in
           let b = r .2 in
           omega arith
+
       go : (t : ℕ) → times k l ≡ t → k ≡ y → same k y ≡ 1 → same k y + times k l ≤ 1
       go zero a e f = omega arith
       go (suc t) a e f = absurd (bad e (omega arith))

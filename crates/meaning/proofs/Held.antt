@@ -3,12 +3,11 @@
 -- lists and, where all cells are spoken of, lengths that add up to C.
 use Prim.Native.Nat.{ℕ, zero, suc, _+_, _≤_, _<_}
 use mathlib.Core.List.{List, [], _∷_, _++_, map}
-use mathlib.Core.Logic.{_⊎_, inl, inr, ⊎-elim}
+use mathlib.Core.Logic.{⊎-elim}
 use mathlib.Core.Path.{_≡_, refl, sym, ap, _∙_, subst}
 use native.Mathlib.Omega.{arith}
 use lib.ListN.{length, length-append}
-use Rattle.meaning.specs.Table.{NONE, headOf, lengthOf, ownerOf, targetOf, nextOf}
-use Rattle.meaning.specs.Cells.{Cell}
+use Rattle.meaning.specs.Table.{NONE, headOf, lengthOf, ownerOf, nextOf}
 use Rattle.meaning.specs.Soundness.{Reaches, lengths, Along}
 use Rattle.meaning.specs.Day.{cells}
 use Rattle.meaning.proofs.Times.{same-cases, same-self, times, times-append, Below, below-append, each-once}
@@ -125,8 +124,8 @@ module _ (n C : ℕ) (w : List ℕ) (low : C ≤ NONE) (reaches : (v : ℕ) → 
   pub parted : lengths n C w (n + 1) ≡ C → (i : ℕ) → i < C → (ownerOf n C w i ≤ n) × (times i (held n C w (ownerOf n C w i)) ≡ 1)
   parted whole i p =
       let t : times i (flat (held n C w) (n + 1)) ≡ 1 =
-        each-once C (flat (held n C w) (n + 1)) (flat-below (n + 1) (omega arith)) (flat-long (n + 1) (omega arith) ∙ whole) (λ k q. flat-once (n + 1) (omega arith) k .most)
-        i p in
+      each-once C (flat (held n C w) (n + 1)) (flat-below (n + 1) (omega arith)) (flat-long (n + 1) (omega arith) ∙ whole) (λ k q. flat-once (n + 1) (omega arith) k .most)
+      i p in
       let r = flat-once (n + 1) (omega arith) i .owned (omega arith) in
       let o : ownerOf n C w i ≤ n = omega (arith, r .0) in
       (o, omega (arith, r .1, held-once (ownerOf n C w i) i o))

@@ -7,3 +7,5 @@ pub mod Judged
 pub mod Times
 pub mod Chains
 pub mod Held
+pub mod Decided
+pub mod Rules

@@ -4,11 +4,11 @@ use Prim.Native.Nat.{ℕ, zero, suc, _+_, _≤_, _<_}
 use mathlib.Core.Bool.{Bool, true, false}
 use mathlib.Core.List.{List, [], _∷_, _++_}
 use mathlib.Core.Logic.{_⊎_, inl, inr, ⊎-elim}
-use mathlib.Core.Path.{_≡_, refl, sym, ap, _∙_, subst}
+use mathlib.Core.Path.{_≡_, refl, sym, _∙_, subst}
 use native.Mathlib.Omega.{arith}
 use lib.Dec.{eqb}
 use lib.ListN.{length}
-use borrow.Author.Tests.{eqb-true, eqb-false, eq-eqb, ne-eqb}
+use borrow.Author.Tests.{eqb-true, eqb-false}
 use Rattle.meaning.specs.Cells.{same}
 
 -- the two cases of `same`, with what each gives
@@ -18,6 +18,7 @@ same-cases a b = go (eqb a b) refl
   where
     is : (t : Bool) → eqb a b ≡ t → same a b ≡ elim t [ true ↦ 1 | false ↦ 0 ]
     is t e = rw (same, e)
+
     go : (t : Bool) → eqb a b ≡ t → ((a ≡ b) × (same a b ≡ 1)) ⊎ ((a ≡ b → ⊥) × (same a b ≡ 0))
     go true e = inl (eqb-true a b e, is true e)
     go false e = inr (eqb-false a b e, is false e)
