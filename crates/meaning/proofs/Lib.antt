@@ -9,3 +9,4 @@ pub mod Chains
 pub mod Held
 pub mod Decided
 pub mod Rules
+pub mod Determined
