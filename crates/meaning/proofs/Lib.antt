@@ -10,3 +10,4 @@ pub mod Held
 pub mod Decided
 pub mod Rules
 pub mod Determined
+pub mod Pairs
