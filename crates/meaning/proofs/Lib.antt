@@ -11,3 +11,4 @@ pub mod Decided
 pub mod Rules
 pub mod Determined
 pub mod Pairs
+pub mod Crossing
