@@ -182,7 +182,9 @@ module _ (n C D : ℕ) (w : List ℕ) (s : Sound n C D w) where
     apart = right-apart;
     short = right-short;
     inside = sum-none n C w (outside n) (λ v j p q. let a = cell-aims v j p q in omega arith);
-    unlooped = sum-none n C w loop (λ v j p q. let a = cell-aims v j p q in ⊎-elim (λ e. absurd (a .other (sym (e .0)))) (λ e. e .1) (same-cases v (targetOf n C w j)));
+    unlooped =
+        sum-none n C w loop (λ v j p q. let a = cell-aims v j p q in
+        ⊎-elim (λ e. absurd (a .other (sym (e .0)))) (λ e. e .1) (same-cases v (targetOf n C w j)));
     ended =
         sum-none n C w (shut (dayOf n C w)) (λ v j p q.
         let a = cell-aims v j p q in

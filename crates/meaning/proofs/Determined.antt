@@ -3,7 +3,7 @@
 -- say of both tables: sizes, length, a chain for each list, lengths that add up to C, targets NONE along the free list.
 use Prim.Native.Nat.{ℕ, zero, suc, _+_, _*_, _-_, _≤_, _<_}
 use mathlib.Core.List.{List, [], map}
-use mathlib.Core.Logic.{⊎-elim}
+use mathlib.Core.Logic.{⊎-elim, by-cases}
 use mathlib.Core.Path.{_≡_, sym, ap, _∙_, subst}
 use native.Mathlib.Decide.{decLt}
 use native.Mathlib.Omega.{arith}
@@ -119,8 +119,10 @@ module _ (n C : ℕ) (w w′ : List ℕ) (room : InRoom n C) (long : length w �
                   cells-target n C w w′ (lengthOf n C w v) (lengthOf n C w′ v) (headOf n C w v) (headOf n C w′ v) (same-cells n C w w′ e v q) i (r .1)
               | no q ↦
                   let z : v ≡ n = omega (arith, r .0) in
-                  along-at n C w (λ i. targetOf n C w i ≡ NONE) (lengthOf n C w n) (headOf n C w n) freed i (subst (λ (z : ℕ). 0 < times i (held n C w z)) z (r .1))
-                  ∙ sym (along-at n C w′ (λ i. targetOf n C w′ i ≡ NONE) (lengthOf n C w′ n) (headOf n C w′ n) freed′ i (subst (λ (z : ℕ). 0 < times i (held n C w′ z)) z (r .2)))
+                  along-at n C w (λ i. targetOf n C w i ≡ NONE) (lengthOf n C w n) (headOf n C w n) freed i
+                  (subst (λ (z : ℕ). 0 < times i (held n C w z)) z (r .1))
+                  ∙ sym (along-at n C w′ (λ i. targetOf n C w′ i ≡ NONE) (lengthOf n C w′ n) (headOf n C w′ n) freed′ i
+                  (subst (λ (z : ℕ). 0 < times i (held n C w′ z)) z (r .2)))
             ]
 
     pub determined : w ≡ w′
@@ -128,31 +130,13 @@ module _ (n C : ℕ) (w w′ : List ℕ) (room : InRoom n C) (long : length w �
       where
         at : (i : ℕ) → i < length w → word w i ≡ word w′ i
         at i p =
-            elim (decLt i n) [
-              | yes q ↦ same-run n C w w′ e i q .0
-              | no q1 ↦
-                  elim (decLt i (2 * n)) [
-                    | yes q ↦ shift w w′ n n (λ j h. same-run n C w w′ e j h .1) i (omega arith) (omega arith)
-                    | no q2 ↦
-                        elim (decLt i (3 * n + 1)) [
-                          | yes q ↦ shift w w′ (2 * n) (n + 1) same-heads i (omega arith) (omega arith)
-                          | no q3 ↦
-                              elim (decLt i (4 * n + 2)) [
-                                | yes q ↦ shift w w′ (3 * n + 1) (n + 1) same-lengths i (omega arith) (omega arith)
-                                | no q4 ↦
-                                    elim (decLt i (4 * n + 2 + C)) [
-                                      | yes q ↦ shift w w′ (4 * n + 2) C same-owners i (omega arith) (omega arith)
-                                      | no q5 ↦
-                                          elim (decLt i (4 * n + 2 + 2 * C)) [
-                                            | yes q ↦ shift w w′ (4 * n + 2 + C) C same-targets i (omega arith) (omega arith)
-                                            | no q6 ↦
-                                                shift w w′ (4 * n + 2 + 2 * C) C same-nexts i (omega arith) (omega arith)
-                                          ]
-                                    ]
-                              ]
-                        ]
-                  ]
-            ]
+            by-cases (decLt i n) (λ q. same-run n C w w′ e i q .0) (λ q1.
+            by-cases (decLt i (2 * n)) (λ q. shift w w′ n n (λ j h. same-run n C w w′ e j h .1) i (omega arith) (omega arith)) (λ q2.
+            by-cases (decLt i (3 * n + 1)) (λ q. shift w w′ (2 * n) (n + 1) same-heads i (omega arith) (omega arith)) (λ q3.
+            by-cases (decLt i (4 * n + 2)) (λ q. shift w w′ (3 * n + 1) (n + 1) same-lengths i (omega arith) (omega arith)) (λ q4.
+            by-cases (decLt i (4 * n + 2 + C)) (λ q. shift w w′ (4 * n + 2) C same-owners i (omega arith) (omega arith)) (λ q5.
+            by-cases (decLt i (4 * n + 2 + 2 * C)) (λ q. shift w w′ (4 * n + 2 + C) C same-targets i (omega arith) (omega arith)) (λ q6.
+            shift w w′ (4 * n + 2 + 2 * C) C same-nexts i (omega arith) (omega arith)))))))
 
 pub sound-determined : (n C D D′ : ℕ) (w w′ : List ℕ) → Sound n C D w → Sound n C D′ w′ → dayOf n C w ≡ dayOf n C w′ → w ≡ w′
 sound-determined n C D D′ w w′ s s′ e =

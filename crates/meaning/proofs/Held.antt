@@ -124,7 +124,8 @@ module _ (n C : ℕ) (w : List ℕ) (low : C ≤ NONE) (reaches : (v : ℕ) → 
   pub parted : lengths n C w (n + 1) ≡ C → (i : ℕ) → i < C → (ownerOf n C w i ≤ n) × (times i (held n C w (ownerOf n C w i)) ≡ 1)
   parted whole i p =
       let t : times i (flat (held n C w) (n + 1)) ≡ 1 =
-      each-once C (flat (held n C w) (n + 1)) (flat-below (n + 1) (omega arith)) (flat-long (n + 1) (omega arith) ∙ whole) (λ k q. flat-once (n + 1) (omega arith) k .most)
+      each-once C (flat (held n C w) (n + 1)) (flat-below (n + 1) (omega arith)) (flat-long (n + 1) (omega arith) ∙ whole)
+      (λ k q. flat-once (n + 1) (omega arith) k .most)
       i p in
       let r = flat-once (n + 1) (omega arith) i .owned (omega arith) in
       let o : ownerOf n C w i ≤ n = omega (arith, r .0) in

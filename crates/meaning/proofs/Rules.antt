@@ -1,11 +1,14 @@
 -- Rules 1 to 4 of "The store, section by section" hold exactly where the judge's finite test does; so soundness is decided.
 -- Assumes nothing.
 use Prim.Native.Nat.{ℕ, zero, suc, _+_, _≤_, _<_}
+use mathlib.Core.Bool.{Bool}
 use mathlib.Core.List.{List}
 use mathlib.Core.Logic.{_⊎_, inl, inr, ⊎-elim}
 use mathlib.Core.Path.{_≡_, sym, ap, _∙_, subst}
 use native.Mathlib.Decide.{decLt}
 use native.Mathlib.Omega.{arith}
+use Rattle.terms.specs.Tells.{Tells}
+use Rattle.terms.proofs.Told.{tells-iff}
 use Rattle.meaning.specs.Table.{NONE, headOf, lengthOf, ownerOf, targetOf, nextOf}
 use Rattle.meaning.specs.Soundness.{Reaches, lengths, Along, Aims, Single, Sized, Sound}
 use Rattle.meaning.proofs.Judged.{Aim, Walks, Has, Alone, Judged}
@@ -158,13 +161,15 @@ module _ (n C D : ℕ) (w : List ℕ) where
     lengths = record { whole = s .chained .whole; short = s .chained .short };
     free =
         walks-make n C w n (lengthOf n C w n) (headOf n C w n) (s .chained .reaches n (omega arith))
-        (along-map n C w (λ i. targetOf n C w i ≡ NONE) (Aim n C w n) (λ i e. (λ h. absurd (omega arith), λ h. e)) (lengthOf n C w n) (headOf n C w n) (s .aimed .freed));
+        (along-map n C w (λ i. targetOf n C w i ≡ NONE) (Aim n C w n) (λ i e. (λ h. absurd (omega arith), λ h. e)) (lengthOf n C w n) (headOf n C w n)
+        (s .aimed .freed));
     places = λ v p. record {
       line = record { small = s .named .small v p; freed = s .named .freed v p };
       fresh = λ u q o e f. s .named .apart u v q p o e f;
       walks =
           walks-make n C w v (lengthOf n C w v) (headOf n C w v) (s .chained .reaches v (omega arith))
-          (along-map n C w (Aims n C w v) (Aim n C w v) (λ i a. (λ h. a, λ h. absurd (omega arith))) (lengthOf n C w v) (headOf n C w v) (s .aimed .placed v p));
+          (along-map n C w (Aims n C w v) (Aim n C w v) (λ i a. (λ h. a, λ h. absurd (omega arith))) (lengthOf n C w v) (headOf n C w v)
+          (s .aimed .placed v p));
       alone =
           single-alone n C w (omega arith) (s .chained .reaches) (s .single) v (lengthOf n C w v) (headOf n C w v) p (s .chained .reaches v (omega arith))
           (s .aimed .placed v p);
@@ -200,6 +205,10 @@ module _ (n C D : ℕ) (w : List ℕ) where
     };
     single = alone-single n C w (omega arith) (judged-reaches g) (g .lengths .whole) (λ v p. g .places v p .alone);
   }
+
+  -- a test of the judge is a test of soundness, where sizes and length are right
+  pub told-sound : Sized n C D w → (b : Bool) → Tells b (Judged n C w D) → Tells b (Sound n C D w)
+  told-sound z b t = tells-iff (judged-sound z) sound-judged b t
 
 -- soundness is decided, for any sizes and words
 pub sound-or : (n C D : ℕ) (w : List ℕ) → Sound n C D w ⊎ (Sound n C D w → ⊥)
