@@ -64,15 +64,6 @@ module _ (n C : ℕ) (w : List ℕ) where
       )
 
   -- a list that is alone goes to no place twice, and where it goes to t, t's does not come back
-  has-toward : (t k i : ℕ) → Has n C w t k i → 0 < toward t (cells n C w k i)
-  unfolding Has cells
-  has-toward t zero i h = absurd h
-  has-toward t (suc k) i h =
-      ⊎-elim
-      (λ e. omega (arith, ap (λ (z : ℕ). same t z) e, same-self t))
-      (λ r. omega (arith, has-toward t k (nextOf n C w i) r))
-      (h .1)
-
   toward-has : (v t k i : ℕ) → Reaches n C w v k i → 0 < toward t (cells n C w k i) → Has n C w t k i
   toward-has v t k i p h = let r = toward-cell n C w t k i h in subst (λ (z : ℕ). Has n C w z k i) (r .2) (cell-has n C w v k i (r .0) p (r .1))
 

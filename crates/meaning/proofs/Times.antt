@@ -31,17 +31,6 @@ unfoldable pub times : ℕ → List ℕ → ℕ
 times k [] = 0
 times k (x ∷ l) = same k x + times k l
 
-pub times-nil : (k : ℕ) → times k [] ≡ 0
-unfolding times
-times-nil k = refl
-
-pub times-cons : (k x : ℕ) (l : List ℕ) → times k (x ∷ l) ≡ same k x + times k l
-unfolding times
-times-cons k x l = refl
-
-pub times-front : (k : ℕ) (l : List ℕ) → 0 < times k (k ∷ l)
-times-front k l = omega (arith, times-cons k k l, same-self k)
-
 pub times-append : (k : ℕ) (a b : List ℕ) → times k (a ++ b) ≡ times k a + times k b
 unfolding times
 times-append k [] b = omega arith
