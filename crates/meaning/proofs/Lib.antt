@@ -7,3 +7,11 @@ pub mod Judged
 pub mod Steps
 pub mod Walks
 pub mod Threaded
+pub mod Times
+pub mod Chains
+pub mod Held
+pub mod Decided
+pub mod Rules
+pub mod Determined
+pub mod Pairs
+pub mod Crossing
