@@ -6,3 +6,5 @@ pub mod Right
 pub mod Steps
 pub mod Walks
 pub mod Threaded
+pub mod Moved
+pub mod Moving

@@ -57,6 +57,15 @@ module _ (n C : ℕ) (w w' : List ℕ) where
     | no r ↦ omega (arith, lengths-change k v d e (omega (arith, r)) q (λ z a b. h z (omega arith) b), h k (omega arith) (λ b. r (sym b)))
   ]
 
+-- two lists have no more than C cells together
+pub lengths-two : (n C : ℕ) (w : List ℕ) (k u v : ℕ) → u < v → v < k → lengthOf n C w u + lengthOf n C w v ≤ lengths n C w k
+unfolding lengths
+lengths-two n C w zero u v h q = absurd (omega arith)
+lengths-two n C w (suc k) u v h q = elim (ℕ-discrete v k) [
+  | yes e ↦ rw e (omega (arith, lengths-least n C w k u (omega arith)))
+  | no e ↦ omega (arith, lengths-two n C w k u v h (omega (arith, e)))
+]
+
 module _ (n C : ℕ) (w : List ℕ) (T : Threaded n C w) (v : ℕ) (hv : v ≤ n) where
   -- each length is at most C
   pub length-most : lengthOf n C w v ≤ C
