@@ -4,7 +4,10 @@ pub mod Words
 pub mod Lists
 pub mod Right
 pub mod Steps
+pub mod Entries
 pub mod Walks
 pub mod Threaded
-pub mod Moved
 pub mod Moving
+pub mod Moved
+pub mod Effects
+pub mod Renamed

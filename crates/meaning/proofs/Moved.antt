@@ -1,41 +1,22 @@
 -- The main law of a move: the table stays threaded, every run keeps its words, the cell leaves its list, the others there keep
 -- their order, it comes to the front of the other list with its new target, and every further list stays.
 -- Assumes a threaded table.
-use Prim.Native.Nat.{ℕ, zero, suc, _+_, _-_, _*_, _≤_, _<_}
-use mathlib.Core.List.{List, [], _∷_}
-use mathlib.Core.Path.{_≡_, refl, sym, ap, subst, _∙_}
+use Prim.Native.Nat.{ℕ, zero, suc, _+_, _-_, _≤_, _<_}
+use mathlib.Core.List.{List, _∷_}
+use mathlib.Core.Path.{_≡_, sym, ap, subst, _∙_}
 use native.Mathlib.Omega.{arith}
 use native.Mathlib.Numerals.{add-one}
 use native.Mathlib.Decide.{ℕ-discrete}
-use lib.ListN.{length}
 use Rattle.meaning.specs.Table.{NONE, headOf, lengthOf, targetOf}
-use Rattle.meaning.specs.Cells.{Cell, without}
-use Rattle.meaning.specs.Soundness.{Reaches, Along, lengths}
+use Rattle.meaning.specs.Cells.{without}
+use Rattle.meaning.specs.Soundness.{Reaches, Along}
 use Rattle.meaning.specs.Day.{each, cells, cellsOf}
 use Rattle.meaning.proofs.Lists.{each-same}
-use Rattle.meaning.proofs.Steps.{cellAt, unhooked, hookAt, moved, SameRun}
-use Rattle.meaning.proofs.Walks.{skip, without-each, standing, walk-reaches, walk-along, walk-cells}
-use Rattle.meaning.proofs.Threaded.{Threaded, lengths-change, lengths-two, cell-walk, cell-inside, free-target}
-use Rattle.meaning.proofs.Moving.{
-  moved-table,
-  moved-run,
-  moved-list,
-  moved-lengths,
-  moved-from-head,
-  moved-from-count,
-  moved-to-head,
-  moved-to-count,
-  moved-target,
-  kept-target,
-  stays-below,
-  stays,
-  moved-from-walk,
-  fronted,
-  to-cell,
-  moved-to-walk,
-  other-cell,
-  moved-other-walk,
-}
+use Rattle.meaning.proofs.Entries.{skip, without-each}
+use Rattle.meaning.proofs.Steps.{cellAt, moved, SameRun}
+use Rattle.meaning.proofs.Walks.{standing, walk-reaches, walk-along, walk-cells}
+use Rattle.meaning.proofs.Threaded.{Threaded, cell-walk, cell-inside, free-target}
+use Rattle.meaning.proofs.Moving.{moved-table, moved-run, moved-list, moved-lengths, moved-from-count, moved-to-count, moved-target, kept-target, stays-below, stays, moved-from-walk, fronted, to-cell, moved-to-walk, other-cell, moved-other-walk}
 
 pub record Moves (n C : ℕ) (w : List ℕ) (u k v t : ℕ) (w' : List ℕ) : Type 0 where
   pub threaded : Threaded n C w'

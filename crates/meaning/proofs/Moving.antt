@@ -1,74 +1,18 @@
 -- One cell moves from one list to another: the words afterwards, and the walk of each list over them.
 -- Assumes a threaded table.
-use Prim.Native.Nat.{ℕ, zero, suc, _+_, _-_, _*_, _≤_, _<_}
-use mathlib.Core.List.{List, [], _∷_}
-use mathlib.Core.Path.{_≡_, refl, sym, ap, _∙_}
+use Prim.Native.Nat.{ℕ, zero, suc, _+_, _-_, _≤_, _<_}
+use mathlib.Core.List.{List}
+use mathlib.Core.Path.{_≡_, sym, ap, _∙_}
 use native.Mathlib.Omega.{arith}
-use native.Mathlib.Numerals.{add-one}
 use native.Mathlib.Decide.{ℕ-discrete, decLt}
-use lib.ListN.{length, getD}
-use Rattle.terms.specs.Size.{InRoom, storeWords}
-use Rattle.meaning.specs.Table.{NONE, word, lineAt, numberAt, headAt, lengthAt, ownerAt, targetAt, nextAt, lineOf, numberOf, headOf, lengthOf, ownerOf, targetOf, nextOf}
-use Rattle.meaning.specs.Cells.{Cell, without}
-use Rattle.meaning.specs.Soundness.{Reaches, Along, lengths}
-use Rattle.meaning.specs.Day.{each, cells, cellsOf}
-use Rattle.meaning.proofs.Lists.{each-same}
-use Rattle.meaning.proofs.Steps.{
-  nth,
-  cellAt,
-  hookAt,
-  unhooked,
-  hooked,
-  moved,
-  SameRun,
-  SameList,
-  SameCell,
-  then-run,
-  then-list,
-  then-cell,
-  unhooked-long,
-  hooked-long,
-  unhooked-other,
-  unhooked-at,
-  unhooked-count,
-  hooked-head,
-  hooked-count,
-  hooked-owner,
-  hooked-target,
-  hooked-next,
-  hooked-run,
-  hooked-list,
-  hooked-cell,
-}
-use Rattle.meaning.proofs.Walks.{
-  skip,
-  skip-before,
-  skip-behind,
-  skip-other,
-  skip-most,
-  without-each,
-  nth-zero,
-  nth-suc,
-  Walk,
-  standing,
-  walk-reaches,
-  walk-along,
-  walk-cells,
-}
-use Rattle.meaning.proofs.Threaded.{
-  Threaded,
-  lengths-same,
-  lengths-change,
-  cell-walk,
-  cell-inside,
-  cell-owner,
-  cell-next,
-  cell-end,
-  cell-once,
-  hook-apart,
-  hook-inside,
-  free-target,
-}
+use lib.ListN.{length}
+use Rattle.terms.specs.Size.{storeWords}
+use Rattle.meaning.specs.Table.{word, lineAt, numberAt, headAt, lengthAt, ownerAt, targetAt, nextAt, headOf, lengthOf, ownerOf, targetOf, nextOf}
+use Rattle.meaning.specs.Soundness.{lengths}
+use Rattle.meaning.proofs.Entries.{skip, skip-before, skip-behind, skip-other, skip-most}
+use Rattle.meaning.proofs.Steps.{cellAt, hookAt, unhooked, moved, SameRun, SameList, SameCell, then-run, then-list, then-cell, unhooked-long, hooked-long, unhooked-other, unhooked-at, unhooked-count, hooked-head, hooked-count, hooked-owner, hooked-target, hooked-next, hooked-run, hooked-list, hooked-cell}
+use Rattle.meaning.proofs.Walks.{nth-zero, Walk}
+use Rattle.meaning.proofs.Threaded.{Threaded, lengths-change, cell-inside, cell-owner, cell-next, cell-end, cell-once, hook-apart}
 
 -- the k-th cell leaves u's list
 abbrev out : ℕ → ℕ → List ℕ → ℕ → ℕ → List ℕ

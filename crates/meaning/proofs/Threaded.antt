@@ -1,19 +1,18 @@
 -- A threaded table: rule 2 of document 01 but for the limit, and rule 3's free cells. This holds between any two steps of any
 -- call. What follows of the k-th cell of a list and of the word that names it. Assumes nothing.
-use Prim.Native.Nat.{ℕ, zero, suc, _+_, _-_, _*_, _≤_, _<_}
+use Prim.Native.Nat.{ℕ, zero, suc, _+_, _≤_, _<_}
 use mathlib.Core.List.{List}
-use mathlib.Core.Path.{_≡_, refl, sym, ap, _∙_}
+use mathlib.Core.Path.{_≡_, refl, sym}
 use native.Mathlib.Omega.{arith}
-use native.Mathlib.Numerals.{add-one}
 use native.Mathlib.Decide.{ℕ-discrete}
 use lib.ListN.{length, getD}
 use Rattle.terms.specs.Size.{InRoom, storeWords}
-use Rattle.meaning.specs.Table.{NONE, word, headAt, lengthAt, nextAt, headOf, lengthOf, ownerOf, targetOf, nextOf}
+use Rattle.meaning.specs.Table.{NONE, word, headAt, nextAt, headOf, lengthOf, ownerOf, targetOf, nextOf}
 use Rattle.meaning.specs.Cells.{Cell}
 use Rattle.meaning.specs.Soundness.{Reaches, Along, lengths, Sound}
 use Rattle.meaning.specs.Day.{cellsOf}
 use Rattle.meaning.proofs.Steps.{nth, cellAt, hookAt}
-use Rattle.meaning.proofs.Walks.{nth-zero, nth-suc, Walk, standing, reaches-walk, along-walk, nth-once, cells-length, cells-at}
+use Rattle.meaning.proofs.Walks.{nth-suc, Walk, standing, reaches-walk, along-walk, nth-once, cells-length, cells-at}
 
 pub record Threaded (n C : ℕ) (w : List ℕ) : Type 0 where
   pub room : InRoom n C
