@@ -5,6 +5,7 @@ pub mod Lists
 pub mod Right
 pub mod Judged
 pub mod Steps
+pub mod Entries
 pub mod Walks
 pub mod Threaded
 pub mod Times
@@ -15,3 +16,7 @@ pub mod Rules
 pub mod Determined
 pub mod Pairs
 pub mod Crossing
+pub mod Moving
+pub mod Moved
+pub mod Effects
+pub mod Renamed

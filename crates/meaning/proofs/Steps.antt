@@ -1,8 +1,8 @@
 -- The store's writes as functions on its words, and what is read after each. What a step leaves alone is told by the run at a
 -- place, by the list of a place and by the cell: SameRun, SameList, SameCell. Assumes a table of the store's length.
-use Prim.Native.Nat.{ℕ, zero, suc, _+_, _-_, _*_, _≤_, _<_}
+use Prim.Native.Nat.{ℕ, zero, suc, _+_, _-_, _≤_, _<_}
 use mathlib.Core.List.{List}
-use mathlib.Core.Path.{_≡_, refl, sym, ap, _∙_}
+use mathlib.Core.Path.{_≡_, _∙_}
 use native.Mathlib.Omega.{arith}
 use lib.ListN.{length}
 use Rattle.terms.specs.Size.{storeWords}

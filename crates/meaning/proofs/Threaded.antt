@@ -1,19 +1,18 @@
 -- A threaded table: rule 2 of document 01 but for the limit, and rule 3's free cells. This holds between any two steps of any
 -- call. What follows of the k-th cell of a list and of the word that names it. Assumes nothing.
-use Prim.Native.Nat.{ℕ, zero, suc, _+_, _-_, _*_, _≤_, _<_}
+use Prim.Native.Nat.{ℕ, zero, suc, _+_, _≤_, _<_}
 use mathlib.Core.List.{List}
-use mathlib.Core.Path.{_≡_, refl, sym, ap, _∙_}
+use mathlib.Core.Path.{_≡_, refl, sym}
 use native.Mathlib.Omega.{arith}
-use native.Mathlib.Numerals.{add-one}
 use native.Mathlib.Decide.{ℕ-discrete}
 use lib.ListN.{length, getD}
 use Rattle.terms.specs.Size.{InRoom, storeWords}
-use Rattle.meaning.specs.Table.{NONE, word, headAt, lengthAt, nextAt, headOf, lengthOf, ownerOf, targetOf, nextOf}
+use Rattle.meaning.specs.Table.{NONE, word, headAt, nextAt, headOf, lengthOf, ownerOf, targetOf, nextOf}
 use Rattle.meaning.specs.Cells.{Cell}
 use Rattle.meaning.specs.Soundness.{Reaches, Along, lengths, Sound}
 use Rattle.meaning.specs.Day.{cellsOf}
 use Rattle.meaning.proofs.Steps.{nth, cellAt, hookAt}
-use Rattle.meaning.proofs.Walks.{nth-zero, nth-suc, Walk, standing, reaches-walk, along-walk, nth-once, cells-length, cells-at}
+use Rattle.meaning.proofs.Walks.{nth-suc, Walk, standing, reaches-walk, along-walk, nth-once, cells-length, cells-at}
 
 pub record Threaded (n C : ℕ) (w : List ℕ) : Type 0 where
   pub room : InRoom n C
@@ -56,6 +55,15 @@ module _ (n C : ℕ) (w w' : List ℕ) where
     | yes r ↦ omega (arith, lengths-same k (λ z a. h z (omega arith) (λ b. omega arith)), rw r at q)
     | no r ↦ omega (arith, lengths-change k v d e (omega (arith, r)) q (λ z a b. h z (omega arith) b), h k (omega arith) (λ b. r (sym b)))
   ]
+
+-- two lists have no more than C cells together
+pub lengths-two : (n C : ℕ) (w : List ℕ) (k u v : ℕ) → u < v → v < k → lengthOf n C w u + lengthOf n C w v ≤ lengths n C w k
+unfolding lengths
+lengths-two n C w zero u v h q = absurd (omega arith)
+lengths-two n C w (suc k) u v h q = elim (ℕ-discrete v k) [
+  | yes e ↦ rw e (omega (arith, lengths-least n C w k u (omega arith)))
+  | no e ↦ omega (arith, lengths-two n C w k u v h (omega (arith, e)))
+]
 
 module _ (n C : ℕ) (w : List ℕ) (T : Threaded n C w) (v : ℕ) (hv : v ≤ n) where
   -- each length is at most C

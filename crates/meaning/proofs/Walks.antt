@@ -1,53 +1,16 @@
 -- A list of cells as its walk: the cell at each position, from the head on. The chain of a list, what holds along it and the
 -- cells it has are told by positions, so that a step on the words is a step on positions. Assumes nothing.
 use Prim.{tt}
-use Prim.Native.Nat.{ℕ, zero, suc, _+_, _-_, _≤_, _<_}
-use mathlib.Core.List.{List, [], _∷_}
+use Prim.Native.Nat.{ℕ, zero, suc, _-_, _≤_, _<_}
+use mathlib.Core.List.{List}
 use mathlib.Core.Path.{_≡_, refl, sym, ap, _∙_}
 use native.Mathlib.Omega.{arith}
 use lib.ListN.{length, getD}
-use Rattle.meaning.specs.Table.{NONE, headOf, lengthOf, ownerOf, targetOf, nextOf}
-use Rattle.meaning.specs.Cells.{Cell, without}
+use Rattle.meaning.specs.Table.{NONE, ownerOf, targetOf, nextOf}
+use Rattle.meaning.specs.Cells.{Cell}
 use Rattle.meaning.specs.Soundness.{Reaches, Along}
 use Rattle.meaning.specs.Day.{each, cells}
-use Rattle.meaning.proofs.Lists.{each-length, each-at, each-same}
 use Rattle.meaning.proofs.Steps.{nth}
-
--- the position in a list of what stands at position a once position k is left out
-unfoldable pub skip : ℕ → ℕ → ℕ
-skip zero a = suc a
-skip (suc k) zero = zero
-skip (suc k) (suc a) = suc (skip k a)
-
-pub skip-before : (k a : ℕ) → a < k → skip k a ≡ a
-unfolding skip
-skip-before zero a h = absurd (omega arith)
-skip-before (suc k) zero h = refl
-skip-before (suc k) (suc a) h = ap suc (skip-before k a (omega arith))
-
-pub skip-behind : (k a : ℕ) → k ≤ a → skip k a ≡ suc a
-unfolding skip
-skip-behind zero a h = refl
-skip-behind (suc k) zero h = absurd (omega arith)
-skip-behind (suc k) (suc a) h = ap suc (skip-behind k a (omega arith))
-
-pub skip-other : (k a : ℕ) → skip k a ≡ k → ⊥
-unfolding skip
-skip-other zero a e = omega arith
-skip-other (suc k) zero e = omega arith
-skip-other (suc k) (suc a) e = skip-other k a (omega arith)
-
-pub skip-most : (k a : ℕ) → skip k a ≤ suc a
-unfolding skip
-skip-most zero a = omega arith
-skip-most (suc k) zero = omega arith
-skip-most (suc k) (suc a) = omega (arith, skip-most k a)
-
-pub without-each : {A : Type 0} (k m : ℕ) (f : ℕ → A) → k ≤ m → without k (each (suc m) f) ≡ each m (λ a. f (skip k a))
-unfolding skip
-without-each zero m f h = refl
-without-each (suc k) zero f h = absurd (omega arith)
-without-each (suc k) (suc m) f h = ap (λ l. f 0 ∷ l) (without-each k m (λ a. f (suc a)) (omega arith))
 
 module _ (n C : ℕ) (w : List ℕ) where
   pub nth-zero : (i : ℕ) → nth n C w 0 i ≡ i
