@@ -3,3 +3,4 @@ pub mod Examples
 pub mod Words
 pub mod Lists
 pub mod Right
+pub mod Sums
