@@ -4,3 +4,5 @@ pub mod Words
 pub mod Lists
 pub mod Right
 pub mod Sums
+pub mod Waiting
+pub mod Turnings

@@ -60,11 +60,11 @@ pub rowSum-mem : (g : Cell → ℕ) (c : Cell) (l : List Cell) → List·Memᴰ 
 rowSum-mem g c (k ∷ l) (List·Memᴰ·head e) = rw e (omega arith)
 rowSum-mem g c (k ∷ l) (List·Memᴰ·tail m) = omega (arith, rowSum-mem g c l m)
 
--- a link stands: cell c in the list of v
-abbrev pub Stands : Lists → ℕ → Cell → Type 0
-Stands ls v c = List·Memᴰ c (list ls v)
+-- a link stands as cell c in the list of v
+abbrev pub Has : Lists → ℕ → Cell → Type 0
+Has ls v c = List·Memᴰ c (list ls v)
 
-pub sum-le-in : (f g : Weight) (ls : Lists) → ((v : ℕ) (c : Cell) → Stands ls v c → f v c ≤ g v c) → sum f ls ≤ sum g ls
+pub sum-le-in : (f g : Weight) (ls : Lists) → ((v : ℕ) (c : Cell) → Has ls v c → f v c ≤ g v c) → sum f ls ≤ sum g ls
 sum-le-in f g [] e = omega arith
 sum-le-in f g (l ∷ ls) e = omega (arith, rowSum-le-in (f 0) (g 0) l (e 0), sum-le-in (λ v. f (suc v)) (λ v. g (suc v)) ls (λ v. e (suc v)))
 
@@ -75,7 +75,7 @@ pub sum-ext : (f g : Weight) (ls : Lists) → ((v : ℕ) (c : Cell) → f v c �
 sum-ext f g [] e = refl
 sum-ext f g (l ∷ ls) e = omega (arith, rowSum-ext (f 0) (g 0) l (e 0), sum-ext (λ v. f (suc v)) (λ v. g (suc v)) ls (λ v. e (suc v)))
 
-pub sum-ext-in : (f g : Weight) (ls : Lists) → ((v : ℕ) (c : Cell) → Stands ls v c → f v c ≡ g v c) → sum f ls ≡ sum g ls
+pub sum-ext-in : (f g : Weight) (ls : Lists) → ((v : ℕ) (c : Cell) → Has ls v c → f v c ≡ g v c) → sum f ls ≡ sum g ls
 sum-ext-in f g ls e = omega (arith, sum-le-in f g ls (λ v c m. omega (arith, e v c m)), sum-le-in g f ls (λ v c m. omega (arith, e v c m)))
 
 pub sum-add : (f g : Weight) (ls : Lists) → sum (λ v c. f v c + g v c) ls ≡ sum f ls + sum g ls
@@ -115,7 +115,7 @@ pub row-le : (f : Weight) (ls : Lists) (w : ℕ) → rowSum (f w) (list ls w) �
 row-le f ls w = omega (arith, bare-sum f ls w)
 
 -- a link that stands counts
-pub sum-mem : (f : Weight) (ls : Lists) (v : ℕ) (c : Cell) → Stands ls v c → f v c ≤ sum f ls
+pub sum-mem : (f : Weight) (ls : Lists) (v : ℕ) (c : Cell) → Has ls v c → f v c ≤ sum f ls
 sum-mem f ls v c m = omega (arith, rowSum-mem (f v) c (list ls v) m, row-le f ls v)
 
 pub links-row : (ls : Lists) (v : ℕ) → length (list ls v) ≤ links ls
