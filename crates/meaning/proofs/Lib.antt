@@ -6,3 +6,4 @@ pub mod Right
 pub mod Sums
 pub mod Waiting
 pub mod Turnings
+pub mod Finding
