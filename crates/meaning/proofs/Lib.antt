@@ -7,3 +7,4 @@ pub mod Sums
 pub mod Waiting
 pub mod Turnings
 pub mod Finding
+pub mod Kept
