@@ -95,22 +95,28 @@ absent s p l o v e = go (ltb v (length (s .runs))) refl
         let z : runOf s v ≡ noRun = List·getD-eq-default (s .runs) noRun {n = v} (ltb-false _ _ h) in
         omega (arith, ap (λ (r : Run). r .line) (sym z ∙ e))
 
+-- two names are one run, or not
+pub run-same : (p q : Run) → p ≡ q → sameRun p q ≡ true
+run-same p q e = rw e (same-refl q)
+
+pub run-other : (p q : Run) → (p ≡ q → ⊥) → sameRun p q ≡ false
+run-other p q n = go (sameRun p q) refl
+  where
+    go : (t : Bool) → sameRun p q ≡ t → t ≡ false
+    go true e = absurd (n (run-eq p q e))
+    go false e = refl
+
+pub run-or : (p q : Run) → (p ≡ q) ⊎ (p ≡ q → ⊥)
+run-or p q = go (sameRun p q) refl
+  where
+    go : (t : Bool) → sameRun p q ≡ t → (p ≡ q) ⊎ (p ≡ q → ⊥)
+    go true e = inl (run-eq p q e)
+    go false e = inr (run-ne p q e)
+
 -- in a right day an open run is at one place, and is found there
 pub place-is : (n D : ℕ) (s : Day) → Right n D s → (u : ℕ) (p : Run) → u < n → 0 < p .line → runOf s u ≡ p → placeOf s p ≡ u
-place-is n D s ok u p h l e =
-    first-is (sameRun p) noRun (s .runs) u (omega (arith, ok .places))
-    (run-yes (sym e))
-    (λ i q. run-no (λ f. omega (arith, ok .apart i u (rw (← f) l) (sym f ∙ sym e))))
-  where
-    run-yes : {a b : Run} → a ≡ b → sameRun a b ≡ true
-    run-yes {a} {b} f = rw f (same-refl b)
-
-    run-no : {a b : Run} → (a ≡ b → ⊥) → sameRun a b ≡ false
-    run-no {a} {b} n = go (sameRun a b) refl
-      where
-        go : (t : Bool) → sameRun a b ≡ t → t ≡ false
-        go true f = absurd (n (run-eq a b f))
-        go false f = refl
+place-is n D s ok u p h l e = first-is (sameRun p) noRun (s .runs) u (omega (arith, ok .places)) (run-same p (runOf s u) (sym e))
+    (λ i q. run-other p (runOf s i) (λ f. omega (arith, ok .apart i u (rw (← f) l) (sym f ∙ sym e))))
 
 -- the lowest free place has no run
 pub lowest-free : (s : Day) → lowest s < length (s .runs) → runOf s (lowest s) .line ≡ 0
