@@ -20,3 +20,8 @@ pub mod Moving
 pub mod Moved
 pub mod Effects
 pub mod Renamed
+pub mod Sums
+pub mod Waiting
+pub mod Turnings
+pub mod Finding
+pub mod Kept

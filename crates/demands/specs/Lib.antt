@@ -1,0 +1,3 @@
+-- What a reader must believe of demands 2 and 3.
+pub mod History
+pub mod Demands
