@@ -1,9 +1,10 @@
 -- Document 01, "Day records": which bytes a record is.
-use Prim.Native.Nat.{ℕ, _+_, _*_, _/_, _%_}
-use mathlib.Core.Bool.{Bool, true, false, _&&_}
+use Prim.Native.Nat.{ℕ, _+_, _*_, _/_, _%_, _^_, _≤_, _<_}
+use mathlib.Core.Bool.{Bool, cond, _&&_}
 use mathlib.Core.List.{List, [], _∷_, _++_}
 use lib.Dec.{eqb}
 use lib.ListN.{getD}
+use Rattle.terms.specs.Run.{lineMost}
 use Rattle.terms.specs.declared.run.Run.{Run}
 use Rattle.record.specs.declared.Kind.{Kind}
 use Rattle.record.specs.declared.Kind.the-variants.{Open, Close, Link, Unlink, Ask}
@@ -33,6 +34,11 @@ runBytes r =
     r .line / 256 % 256 ∷ r .line % 256
     ∷ r .trip / 16777216 % 256 ∷ r .trip / 65536 % 256 ∷ r .trip / 256 % 256 ∷ r .trip % 256 ∷ []
 
+-- a run that six bytes can hold: a line in two bytes, a trip number in four
+pub record RunFits (r : Run) : Type 0 where
+  pub line : r .line ≤ lineMost
+  pub trip : r .trip < 2 ^ 32
+
 -- the mark, the kind, the first run, the second run
 abbrev pub bytesOf : Record → List ℕ
 bytesOf r = mark ++ (kindByte (r .kind) ∷ (runBytes (r .first) ++ runBytes (r .second)))
@@ -44,15 +50,16 @@ marked s = eqb (getD s 0 0) (getD mark 0 0) && eqb (getD s 1 0) (getD mark 1 0)
 -- what a kind byte stands for
 unfoldable pub kindOf : ℕ → KindByte
 kindOf b =
-    elim (eqb b 1) [ true ↦ Known Open | false ↦
-    elim (eqb b 2) [ true ↦ Known Close | false ↦
-    elim (eqb b 3) [ true ↦ Known Link | false ↦
-    elim (eqb b 4) [ true ↦ Known Unlink | false ↦
-    elim (eqb b 5) [ true ↦ Known Ask | false ↦ Unknown ] ] ] ] ]
+    cond (eqb b (kindByte Open)) (Known Open)
+    (cond (eqb b (kindByte Close)) (Known Close)
+    (cond (eqb b (kindByte Link)) (Known Link)
+    (cond (eqb b (kindByte Unlink)) (Known Unlink)
+    (cond (eqb b (kindByte Ask)) (Known Ask) Unknown))))
 
--- the run whose line and trip number stand at a position, the high byte first
+-- the number that two bytes are at a position, big-endian
+abbrev pub pairAt : List ℕ → ℕ → ℕ
+pairAt s at = getD s at 0 * 256 + getD s (at + 1) 0
+
+-- the run at a position: its line in two bytes, then its trip number in four
 unfoldable pub runAt : List ℕ → ℕ → Run
-runAt s at = record {
-  line = getD s at 0 * 256 + getD s (at + 1) 0;
-  trip = (getD s (at + 2) 0 * 256 + getD s (at + 3) 0) * 65536 + (getD s (at + 4) 0 * 256 + getD s (at + 5) 0);
-}
+runAt s at = record { line = pairAt s at; trip = pairAt s (at + 2) * 65536 + pairAt s (at + 4) }

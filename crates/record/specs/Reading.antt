@@ -1,6 +1,6 @@
 -- Document 01, "Day records" and "Refusal numbers": what stands first in the rest of a stream.
 use Prim.Native.Nat.{ℕ}
-use mathlib.Core.Bool.{Bool, true, false}
+use mathlib.Core.Bool.{Bool, true, false, not, cond, _&&_}
 use mathlib.Core.List.{List}
 use lib.Dec.{eqb, ltb}
 use lib.ListN.{length, getD}
@@ -30,9 +30,7 @@ noRun = record { line = 0; trip = 0 }
 
 -- a record of kind 1 or 2 whose second run is not zero is refused with 12
 unfoldable pub checked : Kind → Run → Run → Reading
-checked k a b = elim (namesOne k) [
-    true ↦ elim (sameRun b noRun) [ true ↦ Whole (record { kind = k; first = a; second = b }) | false ↦ Refused WrongKind ]
-  | false ↦ Whole (record { kind = k; first = a; second = b }) ]
+checked k a b = cond (namesOne k && not (sameRun b noRun)) (Refused WrongKind) (Whole (record { kind = k; first = a; second = b }))
 
 -- a kind that is not 1 to 5 is refused with 12
 abbrev pub kinded : KindByte → Run → Run → Reading
@@ -42,7 +40,7 @@ kinded Unknown a b = Refused WrongKind
 -- no byte: the end; fewer than fifteen: 13; another mark: 11; then the kind and the second run: 12
 unfoldable pub readingOf : List ℕ → Reading
 readingOf s =
-    elim (eqb (length s) 0) [ true ↦ End | false ↦
-    elim (ltb (length s) recordBytes) [ true ↦ Refused CutShort | false ↦
-    elim (marked s) [ false ↦ Refused WrongMark | true ↦
-    kinded (kindOf (getD s 2 0)) (runAt s 3) (runAt s 9) ] ] ]
+    cond (eqb (length s) 0) End
+    (cond (ltb (length s) recordBytes) (Refused CutShort)
+    (cond (not (marked s)) (Refused WrongMark)
+    (kinded (kindOf (getD s 2 0)) (runAt s 3) (runAt s 9))))

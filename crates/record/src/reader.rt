@@ -1,10 +1,9 @@
 // Reading: what stands first in the rest of a stream.
 ghost use Prim.Native.Nat.{_+_, _≤_, _<_};
-ghost use lib.ListN.{length, take};
+ghost use lib.ListN.{length};
 ghost use mathlib.Core.Path.{_≡_};
-ghost use Rattle.record.specs.Bytes.{marked, runAt, kindOf};
+ghost use Rattle.record.specs.Bytes.{marked, pairAt, runAt, kindOf};
 ghost use Rattle.record.specs.Reading.{readingOf, checked};
-
 use crate::Kind;
 use crate::Record;
 use terms::refusal::Refusal;
@@ -29,17 +28,22 @@ fn wide(b: u8) -> u32
     b as u32
 }
 
-// The line and the trip number that stand at `at`, the high byte first.
+// The number that two bytes are at `at`, the high byte first.
+fn pair_at(s: &[u8], at: usize) -> u32
+    requires { ⌜ at + 2 ≤ length (now s) ⌝ }
+    ensures { λ r. ⌜ (r ≡ pairAt (now (s .entry)) at) × (r < 65536) ⌝ }
+{
+    wide(s[at]) * 256 + wide(s[at + 1])
+}
+
+// A run's line and trip number, which stand at `at`.
 fn run_at(s: &[u8], at: usize) -> Run
-    requires { ⌜ (at < 100) × (at + 6 ≤ length (now s)) ⌝ }
+    requires { ⌜ at + 6 ≤ length (now s) ⌝ }
     ensures { λ r. ⌜ r ≡ runAt (now (s .entry)) at ⌝ }
 {
-    let line = wide(s[at]) * 256 + wide(s[at + 1]);
-    let high = wide(s[at + 2]) * 256 + wide(s[at + 3]);
-    let low = wide(s[at + 4]) * 256 + wide(s[at + 5]);
     Run {
-        line,
-        trip: high * 65536 + low,
+        line: pair_at(s, at),
+        trip: pair_at(s, at + 2) * 65536 + pair_at(s, at + 4),
     }
 }
 
@@ -48,35 +52,27 @@ fn is_marked(s: &[u8]) -> bool
     requires { ⌜ 2 ≤ length (now s) ⌝ }
     ensures { λ r. ⌜ r ≡ marked (now (s .entry)) ⌝ }
 {
-    let mark = b"RN";
-    check::same(&s[..2], mark)
+    check::same(&s[..2], &Record::MARK)
 }
 
 fn kind_of(b: u8) -> KindByte
     ensures { λ r. ⌜ r ≡ kindOf b ⌝ }
 {
     match b {
-        1 => KindByte::Known(Kind::Open),
-        2 => KindByte::Known(Kind::Close),
-        3 => KindByte::Known(Kind::Link),
-        4 => KindByte::Known(Kind::Unlink),
-        5 => KindByte::Known(Kind::Ask),
+        Kind::OPEN => KindByte::Known(Kind::Open),
+        Kind::CLOSE => KindByte::Known(Kind::Close),
+        Kind::LINK => KindByte::Known(Kind::Link),
+        Kind::UNLINK => KindByte::Known(Kind::Unlink),
+        Kind::ASK => KindByte::Known(Kind::Ask),
         _ => KindByte::Unknown,
     }
 }
 
-// Open and Close name one run: the second run's bytes are zero.
+// A kind that names one run leaves the second run's bytes zero: whatever else stands there is refused.
 fn checked_record(kind: Kind, first: Run, second: Run) -> Reading
     ensures { λ r. ⌜ r ≡ checked kind first second ⌝ }
 {
-    let one = match kind {
-        Kind::Open => true,
-        Kind::Close => true,
-        Kind::Link => false,
-        Kind::Unlink => false,
-        Kind::Ask => false,
-    };
-    if one {
+    if kind.names_one() {
         if !second.is(Run { line: 0, trip: 0 }) {
             return Reading::Refused(Refusal::WrongKind);
         }
@@ -88,6 +84,7 @@ fn checked_record(kind: Kind, first: Run, second: Run) -> Reading
     })
 }
 
+// The bytes are judged in the order of the refusals: too few of them, the mark, the kind and the second run.
 pub fn read(rest: &[u8]) -> Reading
     ensures { λ r. ⌜ r ≡ readingOf (now (rest .entry)) ⌝ }
 {
@@ -100,6 +97,7 @@ pub fn read(rest: &[u8]) -> Reading
     if !is_marked(rest) {
         return Reading::Refused(Refusal::WrongMark);
     }
+    // The kind follows the mark; each run is six bytes long.
     let KindByte::Known(kind) = kind_of(rest[2]) else {
         return Reading::Refused(Refusal::WrongKind);
     };

@@ -16,8 +16,11 @@ pub enum Roomed {
 
 impl Room {
     pub const PLACES_LEAST: usize = 1;
+
     pub const PLACES_MOST: usize = 4096;
+
     pub const CELLS_LEAST: usize = 1;
+
     pub const CELLS_MOST: usize = 16384;
 
     pub fn of(n: usize, c: usize) -> Roomed
@@ -59,6 +62,7 @@ pub enum Limited {
 
 impl Limit {
     pub const LEAST: usize = 2;
+
     pub const MOST: usize = 64;
 
     pub fn of(d: usize) -> Limited
