@@ -1,2 +1,3 @@
 -- Laws for the calls on a sound store.
 pub mod Finding
+pub mod Carrying
