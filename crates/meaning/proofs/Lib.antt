@@ -11,3 +11,5 @@ pub mod Moving
 pub mod Moved
 pub mod Effects
 pub mod Renamed
+pub mod Empty
+pub mod EmptyDay
