@@ -48,11 +48,13 @@ module _ (n C : ℕ) (w : List ℕ) where
       cc
 
 -- the k-th cell of a place's list
-pub day-cell : (n C : ℕ) (w : List ℕ) (v k : ℕ) (d : Cell) → v < n → k < lengthOf n C w v → getD (list (dayOf n C w .lists) v) k d ≡ standing n C w (cellAt n C w v k)
+pub day-cell : (n C : ℕ) (w : List ℕ) (v k : ℕ) (d : Cell) → v < n → k < lengthOf n C w v
+    → getD (list (dayOf n C w .lists) v) k d ≡ standing n C w (cellAt n C w v k)
 day-cell n C w v k d hv hk = rw (day-list n C w v hv) (cells-at n C w (lengthOf n C w v) (headOf n C w v) d k hk)
 
 -- a list's first cell
-first-cell : (n C : ℕ) (w : List ℕ) (v : ℕ) (c : Cell) (l : List Cell) → v < n → list (dayOf n C w .lists) v ≡ c ∷ l → (0 < lengthOf n C w v) × (cellAt n C w v 0 ≡ c .index)
+first-cell : (n C : ℕ) (w : List ℕ) (v : ℕ) (c : Cell) (l : List Cell) → v < n → list (dayOf n C w .lists) v ≡ c ∷ l
+    → (0 < lengthOf n C w v) × (cellAt n C w v 0 ≡ c .index)
 first-cell n C w v c l hv e =
     let f : cellsOf n C w v ≡ c ∷ l = sym (day-list n C w v hv) ∙ e in
     let h : 0 < lengthOf n C w v = omega (arith, ap length f, cells-length n C w (lengthOf n C w v) (headOf n C w v)) in
@@ -122,7 +124,8 @@ module _ (n C : ℕ) (w : List ℕ) (T : Threaded n C w) where
       → dayOf n C (moved n C w n 0 a t) ≡ record { runs = dayOf n C w .runs; lists = push (dayOf n C w .lists) a (record { index = i; target = t }); free = fs }
   link-day a t i fs ha e = link-effect n C w (moved n C w n 0 a t) a t i fs (link-moves a t i fs ha e) ha e
 
-  pub turning-moves : (u v t : ℕ) (c : Cell) (l : List Cell) → u < n → v < n → (u ≡ v → ⊥) → list (dayOf n C w .lists) u ≡ c ∷ l → Moves n C w u 0 v t (moved n C w u 0 v t)
+  pub turning-moves : (u v t : ℕ) (c : Cell) (l : List Cell) → u < n → v < n → (u ≡ v → ⊥) → list (dayOf n C w .lists) u ≡ c ∷ l
+      → Moves n C w u 0 v t (moved n C w u 0 v t)
   turning-moves u v t c l hu hv d e = moves n C w u 0 v t T (omega arith) (omega arith) d (first-cell n C w u c l hu e .0) (λ q. absurd (omega arith))
 
   pub turning-day : (u v t : ℕ) (c : Cell) (l : List Cell) → u < n → v < n → (u ≡ v → ⊥) → list (dayOf n C w .lists) u ≡ c ∷ l

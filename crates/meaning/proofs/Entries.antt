@@ -4,7 +4,7 @@ use Prim.Native.Nat.{ℕ, zero, suc, _≤_, _<_}
 use mathlib.Core.List.{List, [], _∷_, map}
 use mathlib.Core.Path.{_≡_, refl, ap}
 use native.Mathlib.Omega.{arith}
-use lib.ListN.{set}
+use lib.ListN.{set, replicate}
 use Rattle.meaning.specs.Cells.{without}
 use Rattle.meaning.specs.Day.{each}
 use Rattle.meaning.proofs.Lists.{each-same}
@@ -80,3 +80,14 @@ each-set-two (suc k) f g (suc u) (suc v) x y hu hv d a b r =
     each-set-two k (λ z. f (suc z)) (λ z. g (suc z)) u v x y (omega arith) (omega arith) (λ q. d (ap suc q)) a b
     (λ z p q t. r (suc z) (omega arith) (λ c. q (omega arith)) (λ c. t (omega arith))) in
     cc
+
+pub each-replicate : {A : Type 0} (k : ℕ) (f : ℕ → A) (x : A) → ((i : ℕ) → i < k → f i ≡ x) → each k f ≡ replicate k x
+each-replicate zero f x h = refl
+each-replicate (suc k) f x h =
+    let a : f 0 ≡ x = h 0 (omega arith) in
+    let s : each k (λ i. f (suc i)) ≡ replicate k x = each-replicate k (λ i. f (suc i)) x (λ i p. h (suc i) (omega arith)) in
+    cc
+
+pub map-each : {A B : Type 0} (f : A → B) (k : ℕ) (g : ℕ → A) → map f (each k g) ≡ each k (λ i. f (g i))
+map-each f zero g = refl
+map-each f (suc k) g = ap (λ l. f (g 0) ∷ l) (map-each f k (λ i. g (suc i)))

@@ -25,3 +25,5 @@ pub mod Waiting
 pub mod Turnings
 pub mod Finding
 pub mod Kept
+pub mod Empty
+pub mod EmptyDay

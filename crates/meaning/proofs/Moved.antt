@@ -8,7 +8,7 @@ use native.Mathlib.Omega.{arith}
 use native.Mathlib.Numerals.{add-one}
 use native.Mathlib.Decide.{ℕ-discrete}
 use Rattle.meaning.specs.Table.{NONE, headOf, lengthOf, targetOf}
-use Rattle.meaning.specs.Cells.{without}
+use Rattle.meaning.specs.Cells.{Cell, without}
 use Rattle.meaning.specs.Soundness.{Reaches, Along}
 use Rattle.meaning.specs.Day.{each, cells, cellsOf}
 use Rattle.meaning.proofs.Lists.{each-same}
@@ -32,8 +32,21 @@ module _ (n C : ℕ) (w : List ℕ) (u k v t : ℕ) (T : Threaded n C w) (hu : u
   abbrev after : List ℕ
   after = moved n C w u k v t
 
-  -- the cells of a list by position
-  listing : (z : ℕ) → z ≤ n → cellsOf n C w z ≡ each (lengthOf n C w z) (λ a. standing n C w (cellAt n C w z a))
+  -- the cell at each position of z's list, and at each position but k of u's, as w has it
+  abbrev before : ℕ → ℕ → Cell
+  before z a = standing n C w (cellAt n C w z a)
+
+  abbrev staying : ℕ → Cell
+  staying a = standing n C w (cellAt n C w u (skip k a))
+
+  -- the same cell as it stands afterwards
+  abbrev later : ℕ → Cell
+  later j = standing n C after j
+
+  aim : (j : ℕ) → targetOf n C after j ≡ targetOf n C w j → later j ≡ standing n C w j
+  aim j e = ap (λ x. record { index = j; target = x }) e
+
+  listing : (z : ℕ) → z ≤ n → cellsOf n C w z ≡ each (lengthOf n C w z) (before z)
   listing z hz = walk-cells n C w z (lengthOf n C w z) (headOf n C w z) (λ a. cellAt n C w z a) (cell-walk n C w T z hz)
 
   from-same : (a : ℕ) → a < lengthOf n C w u - 1 → targetOf n C after (cellAt n C w u (skip k a)) ≡ targetOf n C w (cellAt n C w u (skip k a))
@@ -43,33 +56,35 @@ module _ (n C : ℕ) (w : List ℕ) (u k v t : ℕ) (T : Threaded n C w) (hu : u
 
   from-list : cellsOf n C after u ≡ without k (cellsOf n C w u)
   from-list =
-      let e : lengthOf n C w u ≡ suc (lengthOf n C w u - 1) = omega arith in
-      let b : cells n C after (lengthOf n C w u - 1) (headOf n C after u) ≡ each (lengthOf n C w u - 1) (λ a. standing n C after (cellAt n C w u (skip k a))) =
-      walk-cells n C after u (lengthOf n C w u - 1) (headOf n C after u) (λ a. cellAt n C w u (skip k a)) (moved-from-walk n C w u k v t T hu hv d hk) in
-      let c : each (lengthOf n C w u - 1) (λ a. standing n C after (cellAt n C w u (skip k a))) ≡ each (lengthOf n C w u - 1) (λ a. standing n C w (cellAt n C w u (skip k a))) =
-      each-same (lengthOf n C w u - 1) _ _ (λ a h. ap (λ x. record { index = cellAt n C w u (skip k a); target = x }) (from-same a h)) in
-      let f : without k (each (suc (lengthOf n C w u - 1)) (λ a. standing n C w (cellAt n C w u a))) ≡ each (lengthOf n C w u - 1) (λ a. standing n C w (cellAt n C w u (skip k a))) =
-      without-each k (lengthOf n C w u - 1) (λ a. standing n C w (cellAt n C w u a)) (omega arith) in
-      let g : cellsOf n C w u ≡ each (suc (lengthOf n C w u - 1)) (λ a. standing n C w (cellAt n C w u a)) = listing u hu ∙ ap (λ m. each m (λ a. standing n C w (cellAt n C w u a))) e in
+      let m : ℕ = lengthOf n C w u - 1 in
+      let e : lengthOf n C w u ≡ suc m = omega arith in
+      let b : cells n C after m (headOf n C after u) ≡ each m (λ a. later (cellAt n C w u (skip k a))) =
+      walk-cells n C after u m (headOf n C after u) (λ a. cellAt n C w u (skip k a)) (moved-from-walk n C w u k v t T hu hv d hk) in
+      let c : each m (λ a. later (cellAt n C w u (skip k a))) ≡ each m staying = each-same m _ staying (λ a h. aim (cellAt n C w u (skip k a)) (from-same a h)) in
+      let f : without k (each (suc m) (before u)) ≡ each m staying = without-each k m (before u) (omega arith) in
+      let g : cellsOf n C w u ≡ each (suc m) (before u) = listing u hu ∙ ap (λ x. each x (before u)) e in
       rw (moved-from-count n C w u k v t T hu hv d hk, g) (b ∙ (c ∙ sym f))
 
   to-list : cellsOf n C after v ≡ record { index = cellAt n C w u k; target = t } ∷ cellsOf n C w v
   unfolding fronted
   to-list =
-      let b : cells n C after (suc (lengthOf n C w v)) (headOf n C after v) ≡ standing n C after (cellAt n C w u k) ∷ each (lengthOf n C w v) (λ a. standing n C after (cellAt n C w v a)) =
-      walk-cells n C after v (suc (lengthOf n C w v)) (headOf n C after v) (fronted n C w (cellAt n C w u k) v) (moved-to-walk n C w u k v t T hu hv d hk) in
-      let c : each (lengthOf n C w v) (λ a. standing n C after (cellAt n C w v a)) ≡ each (lengthOf n C w v) (λ a. standing n C w (cellAt n C w v a)) =
-      each-same (lengthOf n C w v) _ _ (λ a h. ap (λ x. record { index = cellAt n C w v a; target = x }) (to-cell n C w u k v t T hu hv d hk a h .target)) in
-      let e : standing n C after (cellAt n C w u k) ≡ record { index = cellAt n C w u k; target = t } =
+      let m : ℕ = lengthOf n C w v in
+      let b : cells n C after (suc m) (headOf n C after v) ≡ later (cellAt n C w u k) ∷ each m (λ a. later (cellAt n C w v a)) =
+      walk-cells n C after v (suc m) (headOf n C after v) (fronted n C w (cellAt n C w u k) v) (moved-to-walk n C w u k v t T hu hv d hk) in
+      let c : each m (λ a. later (cellAt n C w v a)) ≡ each m (before v) =
+      each-same m _ (before v) (λ a h. aim (cellAt n C w v a) (to-cell n C w u k v t T hu hv d hk a h .target)) in
+      let e : later (cellAt n C w u k) ≡ record { index = cellAt n C w u k; target = t } =
       ap (λ x. record { index = cellAt n C w u k; target = x }) (moved-target n C w u k v t T hu hv d hk) in
-      rw (moved-to-count n C w u k v t T hu hv d hk, add-one (lengthOf n C w v)) (b ∙ cc (c, e, listing v hv))
+      rw (moved-to-count n C w u k v t T hu hv d hk, add-one m) (b ∙ cc (c, e, listing v hv))
 
   other-list : (z : ℕ) → z ≤ n → (z ≡ u → ⊥) → (z ≡ v → ⊥) → cellsOf n C after z ≡ cellsOf n C w z
   other-list z hz a b =
-      rw (moved-list n C w u k v t T hu hv d hk z hz a b .count)
-      (walk-cells n C after z (lengthOf n C w z) (headOf n C after z) (λ a. cellAt n C w z a) (moved-other-walk n C w u k v t T hu hv d hk z hz a b)
-      ∙ (each-same (lengthOf n C w z) _ _ (λ x h. ap (λ y. record { index = cellAt n C w z x; target = y }) (other-cell n C w u k v t T hu hv d hk z hz a b x h .target))
-      ∙ sym (listing z hz)))
+      let m : ℕ = lengthOf n C w z in
+      let c : each m (λ x. later (cellAt n C w z x)) ≡ each m (before z) =
+      each-same m _ (before z) (λ x h. aim (cellAt n C w z x) (other-cell n C w u k v t T hu hv d hk z hz a b x h .target)) in
+      let e : cells n C after m (headOf n C after z) ≡ each m (λ x. later (cellAt n C w z x)) =
+      walk-cells n C after z m (headOf n C after z) (λ x. cellAt n C w z x) (moved-other-walk n C w u k v t T hu hv d hk z hz a b) in
+      rw (moved-list n C w u k v t T hu hv d hk z hz a b .count) (e ∙ (c ∙ sym (listing z hz)))
 
   all-reach : (z : ℕ) → z ≤ n → Reaches n C after z (lengthOf n C after z) (headOf n C after z)
   all-reach z hz = elim (ℕ-discrete z u) [

@@ -10,39 +10,40 @@ use Rattle.terms.specs.Size.{storeWords}
 use Rattle.meaning.specs.Table.{word, lineAt, numberAt, headAt, lengthAt, ownerAt, targetAt, nextAt, headOf, lengthOf, ownerOf, targetOf, nextOf}
 use Rattle.meaning.specs.Soundness.{lengths}
 use Rattle.meaning.proofs.Entries.{skip, skip-before, skip-behind, skip-other, skip-most}
-use Rattle.meaning.proofs.Steps.{cellAt, hookAt, unhooked, moved, SameRun, SameList, SameCell, then-run, then-list, then-cell, unhooked-long, hooked-long, unhooked-other, unhooked-at, unhooked-count, hooked-head, hooked-count, hooked-owner, hooked-target, hooked-next, hooked-run, hooked-list, hooked-cell}
+use Rattle.meaning.proofs.Steps.{nth, cellAt, hookAt, unhooked, moved, SameRun, SameList, SameCell, then-run, then-list, then-cell, unhooked-long, hooked-long, unhooked-other, unhooked-at, unhooked-count, hooked-head, hooked-count, hooked-owner, hooked-target, hooked-next, hooked-run, hooked-list, hooked-cell}
 use Rattle.meaning.proofs.Walks.{nth-zero, Walk}
 use Rattle.meaning.proofs.Threaded.{Threaded, lengths-change, cell-inside, cell-owner, cell-next, cell-end, cell-once, hook-apart}
 
--- the k-th cell leaves u's list
-abbrev out : ℕ → ℕ → List ℕ → ℕ → ℕ → List ℕ
+-- the k-th cell leaves u's list; what is read before it goes to another
+abbrev pub out : ℕ → ℕ → List ℕ → ℕ → ℕ → List ℕ
 out n C w u k = unhooked n C w (hookAt n C w u k) u (cellAt n C w u k)
 
 module _ (n C : ℕ) (w : List ℕ) (T : Threaded n C w) (u : ℕ) (hu : u ≤ n) where
   module _ (k : ℕ) (hk : k < lengthOf n C w u) where
-    apart : (p : ℕ) → (p ≡ headAt n C u → ⊥) → ((j : ℕ) → j < C → ownerOf n C w j ≡ u → p ≡ nextAt n C j → ⊥) → (p ≡ lengthAt n C u → ⊥) → word (out n C w u k) p ≡ word w p
+    apart : (p : ℕ) → (p ≡ headAt n C u → ⊥) → ((j : ℕ) → j < C → ownerOf n C w j ≡ u → p ≡ nextAt n C j → ⊥) → (p ≡ lengthAt n C u → ⊥)
+        → word (out n C w u k) p ≡ word w p
     apart p a b c = unhooked-other n C w (hookAt n C w u k) u (cellAt n C w u k) p (hook-apart n C w T u hu k (omega arith) p a b) c
 
-    out-run : (z : ℕ) → z < n → SameRun n C w (out n C w u k) z
+    pub out-run : (z : ℕ) → z < n → SameRun n C w (out n C w u k) z
     out-run z hz = record {
       line = apart (lineAt n C z) (λ e. omega arith) (λ j p o e. omega arith) (λ e. omega arith);
       number = apart (numberAt n C z) (λ e. omega arith) (λ j p o e. omega arith) (λ e. omega arith);
     }
 
-    out-list : (z : ℕ) → z ≤ n → (z ≡ u → ⊥) → SameList n C w (out n C w u k) z
+    pub out-list : (z : ℕ) → z ≤ n → (z ≡ u → ⊥) → SameList n C w (out n C w u k) z
     out-list z hz d = record {
       head = apart (headAt n C z) (λ e. d (omega arith)) (λ j p o e. omega arith) (λ e. omega arith);
       count = apart (lengthAt n C z) (λ e. omega arith) (λ j p o e. omega arith) (λ e. d (omega arith));
     }
 
-    out-owner : (j : ℕ) → j < C → ownerOf n C (out n C w u k) j ≡ ownerOf n C w j
+    pub out-owner : (j : ℕ) → j < C → ownerOf n C (out n C w u k) j ≡ ownerOf n C w j
     out-owner j hj = apart (ownerAt n C j) (λ e. omega arith) (λ j p o e. omega arith) (λ e. omega arith)
 
-    out-target : (j : ℕ) → j < C → targetOf n C (out n C w u k) j ≡ targetOf n C w j
+    pub out-target : (j : ℕ) → j < C → targetOf n C (out n C w u k) j ≡ targetOf n C w j
     out-target j hj = apart (targetAt n C j) (λ e. omega arith) (λ j p o e. omega arith) (λ e. omega arith)
 
     -- the cells of the other lists keep their words
-    out-cell : (j : ℕ) → j < C → (ownerOf n C w j ≡ u → ⊥) → SameCell n C w (out n C w u k) j
+    pub out-cell : (j : ℕ) → j < C → (ownerOf n C w j ≡ u → ⊥) → SameCell n C w (out n C w u k) j
     out-cell j hj d = record {
       owner = out-owner j hj;
       target = out-target j hj;
@@ -50,10 +51,12 @@ module _ (n C : ℕ) (w : List ℕ) (T : Threaded n C w) (u : ℕ) (hu : u ≤ n
     }
 
   -- u's list starts at the cell that was first, or second if the first has left
-  out-head : (k : ℕ) → k < lengthOf n C w u → headOf n C (out n C w u k) u ≡ cellAt n C w u (skip k 0)
+  pub out-head : (k : ℕ) → k < lengthOf n C w u → headOf n C (out n C w u k) u ≡ cellAt n C w u (skip k 0)
   unfolding hookAt skip
   out-head zero hk = unhooked-at n C w (headAt n C u) u (cellAt n C w u 0) (omega (arith, T .long)) (λ e. omega arith) ∙ cell-next n C w T u hu 0
-  out-head (suc k) hk = unhooked-other n C w (nextAt n C (cellAt n C w u k)) u (cellAt n C w u (suc k)) (headAt n C u) (λ e. omega arith) (λ e. omega arith) ∙ sym (nth-zero n C w (headOf n C w u))
+  out-head (suc k) hk =
+      unhooked-other n C w (nextAt n C (cellAt n C w u k)) u (cellAt n C w u (suc k)) (headAt n C u) (λ e. omega arith) (λ e. omega arith)
+      ∙ sym (nth-zero n C w (headOf n C w u))
 
   -- the next word of a cell that stays: only that of the cell before the k-th is written
   next-kept : (k a : ℕ) → k < lengthOf n C w u → a < lengthOf n C w u → (suc a ≡ k → ⊥) → nextOf n C (out n C w u k) (cellAt n C w u a) ≡ cellAt n C w u (suc a)
@@ -186,7 +189,9 @@ module _ (n C : ℕ) (w : List ℕ) (u k v t : ℕ) (T : Threaded n C w) (hu : u
   pub moved-from-walk : Walk n C after u (lengthOf n C w u - 1) (headOf n C after u) (λ a. cellAt n C w u (skip k a))
   moved-from-walk = record {
     starts = sym moved-from-head;
-    ends = rw (skip-behind k (lengthOf n C w u - 1) (omega arith)) (let e : suc (lengthOf n C w u - 1) ≡ lengthOf n C w u = omega arith in rw e (cell-end n C w T u hu));
+    ends =
+        let e : suc (lengthOf n C w u - 1) ≡ lengthOf n C w u = omega arith in
+        rw (skip-behind k (lengthOf n C w u - 1) (omega arith), e) (cell-end n C w T u hu);
     inside = λ a h. cell-inside n C w T u hu (skip k a) (stays-below a (omega arith));
     owned = λ a h.
         kept-owner (cellAt n C w u (skip k a)) (cell-inside n C w T u hu (skip k a) (stays-below a (omega arith))) (stays a (omega arith))
@@ -222,3 +227,9 @@ module _ (n C : ℕ) (w : List ℕ) (u k v t : ℕ) (T : Threaded n C w) (hu : u
       owned = λ a h. other-cell a h .owner ∙ cell-owner n C w T z hz a h;
       steps = λ a h. other-cell a h .next ∙ cell-next n C w T z hz a;
     }
+
+-- where the first cell moves, its list starts at the cell behind it
+pub moved-first : (n C : ℕ) (w : List ℕ) (u v t : ℕ) → Threaded n C w → u ≤ n → v ≤ n → (u ≡ v → ⊥) → 0 < lengthOf n C w u
+    → headOf n C (moved n C w u 0 v t) u ≡ nextOf n C w (headOf n C w u)
+unfolding skip nth
+moved-first n C w u v t T hu hv d h = moved-from-head n C w u 0 v t T hu hv d h

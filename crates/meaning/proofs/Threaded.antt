@@ -4,7 +4,7 @@ use Prim.Native.Nat.{ℕ, zero, suc, _+_, _≤_, _<_}
 use mathlib.Core.List.{List}
 use mathlib.Core.Path.{_≡_, refl, sym}
 use native.Mathlib.Omega.{arith}
-use native.Mathlib.Decide.{ℕ-discrete}
+use native.Mathlib.Decide.{ℕ-discrete, decLt}
 use lib.ListN.{length, getD}
 use Rattle.terms.specs.Size.{InRoom, storeWords}
 use Rattle.meaning.specs.Table.{NONE, word, headAt, nextAt, headOf, lengthOf, ownerOf, targetOf, nextOf}
@@ -56,13 +56,19 @@ module _ (n C : ℕ) (w w' : List ℕ) where
     | no r ↦ omega (arith, lengths-change k v d e (omega (arith, r)) q (λ z a b. h z (omega arith) b), h k (omega arith) (λ b. r (sym b)))
   ]
 
--- two lists have no more than C cells together
-pub lengths-two : (n C : ℕ) (w : List ℕ) (k u v : ℕ) → u < v → v < k → lengthOf n C w u + lengthOf n C w v ≤ lengths n C w k
+lengths-two : (n C : ℕ) (w : List ℕ) (k u v : ℕ) → u < v → v < k → lengthOf n C w u + lengthOf n C w v ≤ lengths n C w k
 unfolding lengths
 lengths-two n C w zero u v h q = absurd (omega arith)
 lengths-two n C w (suc k) u v h q = elim (ℕ-discrete v k) [
   | yes e ↦ rw e (omega (arith, lengths-least n C w k u (omega arith)))
   | no e ↦ omega (arith, lengths-two n C w k u v h (omega (arith, e)))
+]
+
+-- two lists have no more than C cells together
+pub length-pair : (n C : ℕ) (w : List ℕ) → Threaded n C w → (u v : ℕ) → u ≤ n → v ≤ n → (u ≡ v → ⊥) → lengthOf n C w u + lengthOf n C w v ≤ C
+length-pair n C w T u v hu hv d = elim (decLt u v) [
+  | yes h ↦ omega (arith, lengths-two n C w (n + 1) u v h (omega arith), T .whole)
+  | no h ↦ omega (arith, lengths-two n C w (n + 1) v u (omega (arith, h, d)) (omega arith), T .whole)
 ]
 
 module _ (n C : ℕ) (w : List ℕ) (T : Threaded n C w) (v : ℕ) (hv : v ≤ n) where

@@ -6,11 +6,11 @@ use mathlib.Core.List.{List}
 use mathlib.Core.Path.{_≡_, refl, sym, ap, _∙_}
 use native.Mathlib.Omega.{arith}
 use lib.ListN.{length, getD}
-use Rattle.meaning.specs.Table.{NONE, ownerOf, targetOf, nextOf}
+use Rattle.meaning.specs.Table.{NONE, headAt, nextAt, ownerOf, targetOf, nextOf}
 use Rattle.meaning.specs.Cells.{Cell}
 use Rattle.meaning.specs.Soundness.{Reaches, Along}
 use Rattle.meaning.specs.Day.{each, cells}
-use Rattle.meaning.proofs.Steps.{nth}
+use Rattle.meaning.proofs.Steps.{nth, cellAt, hookAt}
 
 module _ (n C : ℕ) (w : List ℕ) where
   pub nth-zero : (i : ℕ) → nth n C w 0 i ≡ i
@@ -21,6 +21,15 @@ module _ (n C : ℕ) (w : List ℕ) where
   unfolding nth
   nth-suc zero i = refl
   nth-suc (suc k) i = nth-suc k (nextOf n C w i)
+
+  -- where the word stands that names the first cell, and the one behind the k-th
+  pub hook-zero : (v : ℕ) → hookAt n C w v 0 ≡ headAt n C v
+  unfolding hookAt
+  hook-zero v = refl
+
+  pub hook-suc : (v k : ℕ) → hookAt n C w v (suc k) ≡ nextAt n C (cellAt n C w v k)
+  unfolding hookAt
+  hook-suc v k = refl
 
   -- the m cells of v from x on are q 0, q 1, ..
   pub record Walk (v m x : ℕ) (q : ℕ → ℕ) : Type 0 where
@@ -68,7 +77,13 @@ module _ (n C : ℕ) (w : List ℕ) where
   -- every chain is the walk by next
   pub reaches-walk : (v m x : ℕ) → Reaches n C w v m x → Walk v m x (λ a. nth n C w a x)
   unfolding Reaches nth
-  reaches-walk v zero x r = record { starts = refl; ends = r; inside = λ a h. absurd (omega arith); owned = λ a h. absurd (omega arith); steps = λ a h. absurd (omega arith) }
+  reaches-walk v zero x r = record {
+    starts = refl;
+    ends = r;
+    inside = λ a h. absurd (omega arith);
+    owned = λ a h. absurd (omega arith);
+    steps = λ a h. absurd (omega arith);
+  }
   reaches-walk v (suc m) x r =
       let k : Walk v m (nextOf n C w x) (λ a. nth n C w a (nextOf n C w x)) = reaches-walk v m (nextOf n C w x) (r .2) in
       record {
