@@ -2,7 +2,7 @@
 use Prim.Native.Nat.{ℕ, zero, suc, _+_, _*_, _≤_, _<_}
 use mathlib.Core.Bool.{Bool, true, false}
 use mathlib.Core.List.{List}
-use mathlib.Core.Path.{_≡_, refl, sym, ap, _∙_}
+use mathlib.Core.Path.{_≡_, refl, sym, ap, subst, _∙_}
 use native.Mathlib.Decide.{ℕ-discrete}
 use native.Mathlib.Numerals.{add-one}
 use native.Mathlib.Omega.{arith}
@@ -19,7 +19,16 @@ use Rattle.meaning.proofs.Steps.{nth, cellAt, hookAt}
 use Rattle.meaning.proofs.Walks.{standing, walk-cells, nth-zero}
 use Rattle.meaning.proofs.Threaded.{Threaded, cell-walk, cell-next, cell-inside}
 use Rattle.table.specs.Within.{Within, AtCell, named}
-use Rattle.store.specs.Find.{Spotted}
+use Rattle.store.specs.Find.{Spotted, Absent, Seeks, Links, Found, Barred, Finds}
+use Rattle.store.specs.declared.find.Spot.{Spot}
+use Rattle.store.specs.declared.find.Seen.{Seen}
+use Rattle.store.specs.declared.find.Seen.the-variants.{At, Nowhere}
+use Rattle.store.specs.declared.find.Linked.{Linked}
+use Rattle.store.specs.declared.find.Linked.the-variants.{InFirst, InSecond, Neither}
+use Rattle.store.specs.declared.find.Ends.{Ends}
+use Rattle.store.specs.declared.find.Named.{Named}
+use Rattle.store.specs.declared.find.Named.the-variants.{Both, Refused}
+use Rattle.terms.specs.declared.refusal.Refusal.{Refusal}
 
 -- a threaded table is one whose words may be read
 pub threaded-within : (n C : ℕ) (w : List ℕ) → Threaded n C w → Within n C w
@@ -103,14 +112,36 @@ module _ (n C : ℕ) (w : List ℕ) where
         → aim ≡ targetOf n C w cell → aim ≡ t → Spotted (record { cell = cell; position = position; hook = hook }) n C w v t
     unfolding aims
     seek-here many cell hook position aim i h a e = record {
-      position = rw list-of (sym (first-each aims (lengthOf n C w v) (λ k. standing n C w (cellAt n C w v k)) position (omega (arith, i .count))
+      first = rw list-of (sym (first-each aims (lengthOf n C w v) (λ k. standing n C w (cellAt n C w v k)) position (omega (arith, i .count))
           (eq-eqb _ _ (sym (a ∙ ap (targetOf n C w) (i .here)) ∙ e)) (λ k q. ne-eqb _ _ (i .none k q))));
-      within = omega (arith, i .count);
-      cell = i .here;
-      hook = i .names;
+      spot = record { within = omega (arith, i .count); cell = i .here; hook = i .names };
     }
 
-    pub seek-nowhere : (many cell hook position : ℕ) → Seeking v t many cell hook position → many ≤ position → lengthOf n C w v ≤ seek t (cellsOf n C w v)
+    pub seek-nowhere : (many cell hook position : ℕ) → Seeking v t many cell hook position → many ≤ position → Absent n C w v t
     unfolding aims
     seek-nowhere many cell hook position i h =
-        rw list-of (omega (arith, none-each aims (lengthOf n C w v) (λ k. standing n C w (cellAt n C w v k)) (λ k q. ne-eqb _ _ (i .none k (omega (arith, i .count))))))
+        record { none = rw list-of (omega (arith, none-each aims (lengthOf n C w v) (λ k. standing n C w (cellAt n C w v k)) (λ k q. ne-eqb _ _ (i .none k (omega (arith, i .count)))))) }
+
+-- what an answer that is known by its case says
+module _ (n C : ℕ) (w : List ℕ) (u v : ℕ) where
+  pub seen-at : (r : Seen) (s : Spot) → Seeks r n C w u v → r ≡ At s → Spotted s n C w u v
+  seen-at r s h e = subst (λ (x : Seen). Seeks x n C w u v) e h
+
+  pub seen-nowhere : (r : Seen) → Seeks r n C w u v → r ≡ Nowhere → Absent n C w u v
+  seen-nowhere r h e = subst (λ (x : Seen). Seeks x n C w u v) e h
+
+  pub link-first : (r : Linked) (s : Spot) → Links r n C w u v → r ≡ InFirst s → Spotted s n C w u v
+  link-first r s h e = subst (λ (x : Linked). Links x n C w u v) e h
+
+  pub link-second : (r : Linked) (s : Spot) → Links r n C w u v → r ≡ InSecond s → Absent n C w u v × Spotted s n C w v u
+  link-second r s h e = subst (λ (x : Linked). Links x n C w u v) e h
+
+  pub link-neither : (r : Linked) → Links r n C w u v → r ≡ Neither → Absent n C w u v × Absent n C w v u
+  link-neither r h e = subst (λ (x : Linked). Links x n C w u v) e h
+
+module _ (n C : ℕ) (w : List ℕ) (p q : Run) where
+  pub named-both : (r : Named) (e : Ends) → Finds r n C w p q → r ≡ Both e → Found n C w p q e
+  named-both r e h f = subst (λ (x : Named). Finds x n C w p q) f h
+
+  pub named-barred : (r : Named) (why : Refusal) → Finds r n C w p q → r ≡ Refused why → Barred n C w p q why
+  named-barred r why h f = subst (λ (x : Named). Finds x n C w p q) f h

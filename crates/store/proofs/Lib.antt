@@ -1,3 +1,5 @@
 -- Laws for the calls on a sound store.
 pub mod Finding
 pub mod Carrying
+pub mod Opening
+pub mod Naming

@@ -3,9 +3,10 @@ ghost use Prim.Native.Nat.{ℕ, _≤_, _<_};
 ghost use mathlib.Core.Path.{_≡_};
 ghost use Rattle.meaning.specs.Day.{dayOf, placeOf, lowest};
 ghost use Rattle.meaning.proofs.Threaded.{Threaded};
-ghost use Rattle.store.specs.Find.{Seeks};
+ghost use Rattle.store.specs.Find.{Seeks, Links, Finds};
 ghost use Rattle.table.specs.Within.{Within};
 use table::section;
+use terms::refusal::Refusal;
 use terms::run::Run;
 
 // The place that has the run's line and trip number, n where none has.
@@ -74,4 +75,61 @@ pub fn seek(store: &[u32], n: usize, c: usize, v: usize, t: usize) -> Seen
         position += 1;
     }
     Seen::Nowhere
+}
+
+// Which of two lists has the link.
+pub enum Linked {
+    InFirst(Spot),
+    InSecond(Spot),
+    Neither,
+}
+
+// Where the link of the places u and v stands: each is looked for in the other's list.
+pub fn link_of(store: &[u32], n: usize, c: usize, u: usize, v: usize) -> Linked
+    requires { ⌜ Threaded n c (now store) × (u < n) × (v < n) ⌝ }
+    ensures { λ r. ⌜ Links r n c (now (store .entry)) u v ⌝ }
+{
+    if let Seen::At(spot) = seek(store, n, c, u, v) {
+        return Linked::InFirst(spot);
+    }
+    if let Seen::At(spot) = seek(store, n, c, v, u) {
+        return Linked::InSecond(spot);
+    }
+    Linked::Neither
+}
+
+// The places of two runs.
+pub struct Ends {
+    pub first: usize,
+    pub second: usize,
+}
+
+pub enum Named {
+    Both(Ends),
+    Refused(Refusal),
+}
+
+// The places of two named runs, or why there are none: a bad name, the same run twice, a run that is not open.
+pub fn both(store: &[u32], n: usize, c: usize, p: Run, q: Run) -> Named
+    requires { ⌜ Within n c (now store) ⌝ }
+    ensures { λ r. ⌜ Finds r n c (now (store .entry)) p q ⌝ }
+{
+    if p.is_bad() {
+        return Named::Refused(Refusal::BadName);
+    }
+    if q.is_bad() {
+        return Named::Refused(Refusal::BadName);
+    }
+    if p.is(q) {
+        return Named::Refused(Refusal::SameRun);
+    }
+    let first = place(store, n, c, p);
+    if n <= first {
+        return Named::Refused(Refusal::NotOpen);
+    }
+    let second = place(store, n, c, q);
+    if n <= second {
+        return Named::Refused(Refusal::NotOpen);
+    }
+    Named::Both(Ends { first, second })
 }
