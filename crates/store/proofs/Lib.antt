@@ -3,3 +3,5 @@ pub mod Finding
 pub mod Carrying
 pub mod Opening
 pub mod Naming
+pub mod Shifting
+pub mod Linking
