@@ -1,3 +1,4 @@
 -- The proofs of demands 2 and 3.
 pub mod Choices
 pub mod Potential
+pub mod Law
