@@ -2,3 +2,4 @@
 pub mod Choices
 pub mod Potential
 pub mod Law
+pub mod Asking
