@@ -3,3 +3,4 @@ pub mod Choices
 pub mod Potential
 pub mod Law
 pub mod Asking
+pub mod Pays
