@@ -4,3 +4,4 @@ pub mod Potential
 pub mod Law
 pub mod Asking
 pub mod Pays
+pub mod Dense
