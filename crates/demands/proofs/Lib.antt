@@ -5,3 +5,5 @@ pub mod Law
 pub mod Asking
 pub mod Pays
 pub mod Dense
+pub mod Histories
+pub mod Theorems
