@@ -7,3 +7,4 @@ pub mod Pays
 pub mod Dense
 pub mod Histories
 pub mod Theorems
+pub mod Example

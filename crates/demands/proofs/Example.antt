@@ -1,0 +1,81 @@
+-- A worked history for which every premise of demand 3 holds, with links accepted, directions changed and links reversed: none of
+-- its numbers is 0. By computation; assumes nothing.
+use Prim.Native.Nat.{ℕ, _+_, _*_, _-_, _≤_}
+use mathlib.Core.Bool.{Bool, true, false}
+use mathlib.Core.List.{List, [], _∷_}
+use mathlib.Core.Path.{_≡_, refl, sym, ap, _∙_}
+use native.Mathlib.Omega.{arith}
+use Rattle.terms.specs.Run.{badName, sameRun}
+use Rattle.terms.specs.declared.run.Run.{Run}
+use Rattle.terms.proofs.Names.{same-eq as run-eq}
+use Rattle.meaning.specs.Cells.{same}
+use Rattle.meaning.specs.Turning.{handAll, turning}
+use Rattle.meaning.specs.Day.{Day, emptyDay}
+use Rattle.meaning.specs.Calls.{Call, openRun, link, yes1}
+use Rattle.demands.specs.History.{samePair, unsure, outward, differ, accepted, reversals, Directions, Directed, History, calls, AllDirected, changes}
+use Rattle.demands.proofs.Choices.{yes-le}
+use Rattle.demands.proofs.Theorems.{demand-3}
+
+-- three runs are linked with a, which has the trip number of b on another line
+abbrev a : Run
+a = record { line = 1; trip = 100 }
+
+abbrev b : Run
+b = record { line = 2; trip = 100 }
+
+abbrev c : Run
+c = record { line = 2; trip = 101 }
+
+abbrev e : Run
+e = record { line = 2; trip = 102 }
+
+-- at first the link with b goes outward at a and that with c at c; then every link goes outward at the end that is not a
+abbrev early : Directions
+early x y = yes1 (sameRun b y) + yes1 (sameRun c x)
+
+abbrev late : Directions
+late x y = yes1 (sameRun a y)
+
+abbrev pub history : History
+history =
+    (openRun a, early) ∷ (openRun b, early) ∷ (openRun c, early) ∷ (openRun e, early) ∷ (link a b, early) ∷ (link a c, early) ∷ (link a e, late) ∷ []
+
+-- a name is at most one of two different ones
+not-two : (p x y : Run) → sameRun x y ≡ false → yes1 (sameRun p x) + yes1 (sameRun p y) ≤ 1
+not-two p x y n = go (sameRun p x) refl (sameRun p y) refl
+  where
+    go : (s : Bool) → sameRun p x ≡ s → (t : Bool) → sameRun p y ≡ t → yes1 s + yes1 t ≤ 1
+    go true f true g = let z : sameRun x y ≡ true = rw (← run-eq p x f) g in absurd (let w : _≡_ {A = ℕ} 0 1 = cc in omega arith)
+    go true f false g = omega arith
+    go false f t g = omega (arith, yes-le t)
+
+pub directed : AllDirected 1 2 (emptyDay 4 3) history
+unfolding badName sameRun same handAll turning unsure outward
+directed = (
+  record { each = refl; few = λ p. omega arith },
+  (
+    record { each = refl; few = λ p. omega arith },
+    (
+      record { each = refl; few = λ p. omega arith },
+      (
+        record { each = refl; few = λ p. omega arith },
+        (
+          record { each = refl; few = λ p. omega (arith, not-two p a b refl) },
+          (
+            record { each = refl; few = λ p. omega (arith, not-two p a c refl) },
+            (record { each = refl; few = λ p. omega (arith, not-two p b c refl, not-two p c e refl, not-two p b e refl) }, tt),
+          ),
+        ),
+      ),
+    ),
+  ),
+)
+
+pub numbers : (accepted 2 (emptyDay 4 3) (calls history) ≡ 3) × (changes 2 (emptyDay 4 3) early history ≡ 1) × (reversals 2 (emptyDay 4 3) (calls history) ≡ 3)
+unfolding badName sameRun same handAll turning samePair differ
+numbers = (refl, refl, refl)
+
+-- 3 reversals, times 1, are at most 3 links and 1 change, times 3
+pub bound : reversals 2 (emptyDay 4 3) (calls history) * (2 + 1 - 2 * 1)
+    ≤ (accepted 2 (emptyDay 4 3) (calls history) + changes 2 (emptyDay 4 3) early history) * (2 + 1)
+bound = demand-3 4 3 2 1 (omega arith) early history directed
