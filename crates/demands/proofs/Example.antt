@@ -1,18 +1,20 @@
--- A worked history for which every premise of demand 3 holds, with links accepted, directions changed and links reversed: none of
--- its numbers is 0. By computation; assumes nothing.
-use Prim.Native.Nat.{ℕ, _+_, _*_, _-_, _≤_}
-use mathlib.Core.Bool.{Bool, true, false}
+-- Worked histories: one for which every premise of demand 3 holds, with links accepted, directions changed and links reversed, none
+-- of these numbers 0; and what is too dense and what is not. By computation; assumes nothing.
+use Prim.Native.Nat.{ℕ, _+_, _*_, _-_, _/_, _≤_}
+use mathlib.Core.Bool.{Bool, true, false, _&&_}
 use mathlib.Core.List.{List, [], _∷_}
 use mathlib.Core.Path.{_≡_, refl, sym, ap, _∙_}
 use native.Mathlib.Omega.{arith}
 use Rattle.terms.specs.Run.{badName, sameRun}
 use Rattle.terms.specs.declared.run.Run.{Run}
+use Rattle.terms.specs.declared.refusal.Refusal.the-variants.{TooDense}
+use Rattle.terms.specs.declared.refusal.Answer.the-variants.{Refused}
 use Rattle.terms.proofs.Names.{same-eq as run-eq}
 use Rattle.meaning.specs.Cells.{same}
 use Rattle.meaning.specs.Turning.{handAll, turning}
 use Rattle.meaning.specs.Day.{Day, emptyDay}
-use Rattle.meaning.specs.Calls.{Call, openRun, link, yes1}
-use Rattle.demands.specs.History.{samePair, unsure, outward, differ, accepted, reversals, Directions, Directed, History, calls, AllDirected, changes}
+use Rattle.meaning.specs.Calls.{Call, openRun, link, call, yes1}
+use Rattle.demands.specs.History.{after, samePair, unsure, outward, differ, accepted, reversals, Directions, Directed, DirectedWith, History, calls, AllDirected, changes}
 use Rattle.demands.proofs.Choices.{yes-le}
 use Rattle.demands.proofs.Theorems.{demand-3}
 
@@ -79,3 +81,20 @@ numbers = (refl, refl, refl)
 pub bound : reversals 2 (emptyDay 4 3) (calls history) * (2 + 1 - 2 * 1)
     ≤ (accepted 2 (emptyDay 4 3) (calls history) + changes 2 (emptyDay 4 3) early history) * (2 + 1)
 bound = demand-3 4 3 2 1 (omega arith) early history directed
+
+-- ---- too dense
+-- before its last link the day of the history can be directed, with that link, one outward at each run: half of D
+pub with-last : DirectedWith a e (2 / 2) late (after 2 (emptyDay 4 3) (openRun a ∷ openRun b ∷ openRun c ∷ openRun e ∷ link a b ∷ link a c ∷ []))
+unfolding badName sameRun same handAll turning unsure outward
+with-last = record { each = refl; few = λ p. omega (arith, not-two p b c refl, not-two p c e refl, not-two p b e refl) }
+
+-- rounded down: with D = 1 a triangle can be directed round, one outward at each run, and its last link may be refused
+abbrev round : Directions
+round x y = yes1 (sameRun a x && sameRun b y) + yes1 (sameRun b x && sameRun c y) + yes1 (sameRun c x && sameRun a y)
+
+abbrev corner : Day
+corner = after 1 (emptyDay 3 3) (openRun a ∷ openRun b ∷ openRun c ∷ link a b ∷ link a c ∷ [])
+
+pub rounded-down : DirectedWith b c 1 round corner × (call 1 corner (link b c) .answer ≡ Refused TooDense)
+unfolding badName sameRun same handAll turning unsure outward
+rounded-down = (record { each = refl; few = λ p. omega (arith, not-two p a b refl, not-two p b c refl, not-two p a c refl) }, refl)
