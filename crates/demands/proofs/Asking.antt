@@ -1,29 +1,28 @@
 -- Asking is right: in a right day it says 1 where a link stands between the two runs, and 0 where none does or the question is
 -- refused. Assumes nothing.
-use Prim.Native.Nat.{ℕ, zero, suc, _+_, _-_, _*_, _≤_, _<_}
-use mathlib.Core.Bool.{Bool, true, false, not, _||_, _&&_}
-use mathlib.Core.List.{List, [], _∷_}
-use mathlib.Core.Logic.{_⊎_, inl, inr, ⊎-elim}
-use mathlib.Core.Option.{Option, none, some}
+use Prim.Native.Nat.{ℕ, _+_, _-_, _*_, _≤_, _<_}
+use mathlib.Core.Bool.{Bool, true, false, _||_, _&&_}
+use mathlib.Core.List.{[]}
+use mathlib.Core.Logic.{_⊎_, ⊎-elim}
+use mathlib.Core.Option.{none, some}
 use mathlib.Core.Path.{_≡_, refl, sym, ap, subst₂, _∙_}
 use native.Mathlib.Decide.{ℕ-discrete}
 use native.Mathlib.Omega.{arith}
-use lib.Dec.{eqb, ltb, leb}
 use lib.ListN.{length}
 use borrow.Author.Tests.{lt-ltb}
-use Rattle.terms.specs.Run.{badName, sameRun, lineMost}
+use Rattle.terms.specs.Run.{badName, sameRun}
 use Rattle.terms.specs.Refusal.{valueOf}
 use Rattle.terms.specs.declared.run.Run.{Run}
 use Rattle.terms.specs.declared.refusal.Refusal.{Refusal}
-use Rattle.terms.proofs.Names.{not-bad, same-refl}
+use Rattle.terms.proofs.Names.{not-bad}
 use Rattle.meaning.specs.Cells.{Cell, sum, same}
 use Rattle.meaning.specs.Day.{Day, runOf, placeOf, isOpen}
-use Rattle.meaning.specs.Calls.{ask, linked, tests, pairTests, firstRefusal, yes1}
+use Rattle.meaning.specs.Calls.{ask, tests, firstRefusal, yes1}
 use Rattle.meaning.proofs.Right.{Right, pair}
 use Rattle.meaning.proofs.Sums.{same-eq, same-ne, Has, sum-ext, sum-le-in, sum-zero}
 use Rattle.meaning.proofs.Finding.{Both, both-named, Failed, run-same, run-other, place-is}
 use Rattle.meaning.proofs.Kept.{linked-once, ends-open, call-case}
-use Rattle.demands.specs.History.{samePair, weigh, between, asked}
+use Rattle.demands.specs.History.{samePair, between, asked}
 use Rattle.demands.proofs.Choices.{by, pair-is}
 
 -- two open places have one name where they are one place

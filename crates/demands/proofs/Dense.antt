@@ -1,22 +1,21 @@
 -- No link is refused as too dense if the links with it can be directed with at most half of D, rounded down, outward at each run.
 -- Assumes nothing.
-use Prim.Native.Nat.{ℕ, _+_, _*_, _/_, _≤_, _<_}
+use Prim.Native.Nat.{ℕ, _/_, _<_}
 use mathlib.Core.Bool.{Bool, true, false}
 use mathlib.Core.List.{List, [], _∷_}
-use mathlib.Core.Option.{Option, none, some}
-use mathlib.Core.Path.{_≡_, refl, sym, ap, ap₂, _∙_}
+use mathlib.Core.Option.{Option, some}
+use mathlib.Core.Path.{_≡_, ap, ap₂, _∙_}
 use native.Mathlib.Omega.{arith}
 use lib.ListN.{length}
 use Rattle.terms.specs.Refusal.{numberOf}
 use Rattle.terms.specs.declared.run.Run.{Run}
 use Rattle.terms.specs.declared.refusal.Refusal.{Refusal}
 use Rattle.terms.specs.declared.refusal.Refusal.the-variants.{TooDense}
-use Rattle.terms.specs.declared.refusal.Answer.{Answer}
-use Rattle.terms.specs.declared.refusal.Answer.the-variants.{Done, Refused}
+use Rattle.terms.specs.declared.refusal.Answer.the-variants.{Refused}
 use Rattle.meaning.specs.Cells.{Cell, Lists, sum}
 use Rattle.meaning.specs.Turning.{Ending, settled, dense}
-use Rattle.meaning.specs.Day.{Day, runOf, placeOf}
-use Rattle.meaning.specs.Calls.{link, Tests, tests, firstRefusal, ended, doLink, linkIn, call}
+use Rattle.meaning.specs.Day.{Day, placeOf}
+use Rattle.meaning.specs.Calls.{link, Tests, tests, firstRefusal, ended, doLink, call}
 use Rattle.meaning.proofs.Right.{Right, pair}
 use Rattle.meaning.proofs.Sums.{push-sum}
 use Rattle.meaning.proofs.Turnings.{Settles}

@@ -2,8 +2,8 @@
 -- of these numbers 0; and what is too dense and what is not. By computation; assumes nothing.
 use Prim.Native.Nat.{ℕ, _+_, _*_, _-_, _/_, _≤_}
 use mathlib.Core.Bool.{Bool, true, false, _&&_}
-use mathlib.Core.List.{List, [], _∷_}
-use mathlib.Core.Path.{_≡_, refl, sym, ap, _∙_}
+use mathlib.Core.List.{[], _∷_}
+use mathlib.Core.Path.{_≡_, refl}
 use native.Mathlib.Omega.{arith}
 use Rattle.terms.specs.Run.{badName, sameRun}
 use Rattle.terms.specs.declared.run.Run.{Run}
@@ -13,8 +13,8 @@ use Rattle.terms.proofs.Names.{same-eq as run-eq}
 use Rattle.meaning.specs.Cells.{same}
 use Rattle.meaning.specs.Turning.{handAll, turning}
 use Rattle.meaning.specs.Day.{Day, emptyDay}
-use Rattle.meaning.specs.Calls.{Call, openRun, link, call, yes1}
-use Rattle.demands.specs.History.{after, samePair, unsure, outward, differ, accepted, reversals, Directions, Directed, DirectedWith, History, calls, AllDirected, changes}
+use Rattle.meaning.specs.Calls.{openRun, link, call, yes1}
+use Rattle.demands.specs.History.{after, samePair, unsure, outward, differ, accepted, reversals, Directions, DirectedWith, History, calls, AllDirected, changes}
 use Rattle.demands.proofs.Choices.{yes-le}
 use Rattle.demands.proofs.Theorems.{demand-3}
 

@@ -2,20 +2,18 @@
 use Prim.Native.Nat.{ℕ, _+_, _-_, _*_, _≤_}
 use mathlib.Core.Bool.{Bool, true, false, not, _||_, _&&_}
 use mathlib.Core.List.{List, [], _∷_}
-use mathlib.Core.Path.{_≡_, refl, sym, ap, _∙_}
+use mathlib.Core.Path.{_≡_, refl, sym, ap}
 use native.Mathlib.Nat.{add-mul, mul-comm}
 use native.Mathlib.Omega.{arith}
-use lib.ListN.{length}
 use Rattle.terms.specs.Refusal.{valueOf}
 use Rattle.terms.specs.declared.run.Run.{Run}
 use Rattle.terms.specs.declared.refusal.Answer.{Answer}
-use Rattle.meaning.specs.Cells.{list}
 use Rattle.meaning.specs.Day.{Day, placeOf}
 use Rattle.meaning.specs.Calls.{Call, openRun, closeRun, link, unlink, ask, reading, linked, call, yes1}
 use Rattle.meaning.proofs.Right.{Right}
 use Rattle.meaning.proofs.Finding.{either-false}
 use Rattle.meaning.proofs.Kept.{call-right, call-case}
-use Rattle.demands.specs.History.{after, accepts, samePair, joins, parts, related, joinings, partings, asked, taken, reversed, accepted, reversals, between, Directions, changed, disagree, History, calls, AllDirected, changes, final}
+use Rattle.demands.specs.History.{after, accepts, samePair, joins, parts, related, joinings, partings, asked, taken, reversed, accepted, reversals, between, changed, disagree, calls, changes, final}
 use Rattle.demands.specs.Demands.{Demand3From}
 use Rattle.demands.proofs.Choices.{yes-le, yes-pair-swaps}
 use Rattle.demands.proofs.Law.{call-law, comes-pair, goes-pair}

@@ -1,13 +1,12 @@
 -- What each call does to the links that stand: an accepted link adds one, an accepted unlink takes one away, and no other call
 -- changes which runs are linked, turning included. Assumes nothing.
-use Prim.Native.Nat.{ℕ, zero, suc, _+_, _-_, _*_, _≤_, _<_}
-use mathlib.Core.Bool.{Bool, true, false, not, _||_, _&&_}
+use Prim.Native.Nat.{ℕ, _+_, _-_, _*_, _<_}
+use mathlib.Core.Bool.{Bool, true, false, not, _&&_}
 use mathlib.Core.List.{List, [], _∷_}
-use mathlib.Core.Option.{Option, none, some}
-use mathlib.Core.Path.{_≡_, refl, sym, ap, ap₂, _∙_}
+use mathlib.Core.Option.{none}
+use mathlib.Core.Path.{_≡_, refl, ap, ap₂}
 use native.Mathlib.Omega.{arith}
-use lib.Dec.{eqb, ltb, leb}
-use lib.ListN.{length, getD, set}
+use lib.ListN.{length}
 use lib.Seq.{getD-set-other}
 use borrow.Author.Tests.{ltb-true, leb-false, not-false}
 use Rattle.terms.specs.Run.{noRun}
@@ -15,7 +14,7 @@ use Rattle.terms.specs.declared.run.Run.{Run}
 use Rattle.terms.specs.declared.refusal.Refusal.{Refusal}
 use Rattle.terms.specs.declared.refusal.Refusal.the-variants.{NoLink}
 use Rattle.terms.specs.declared.refusal.Answer.{Answer}
-use Rattle.meaning.specs.Cells.{Cell, Lists, Weight, list, without, seek, holds, rowSum, sum}
+use Rattle.meaning.specs.Cells.{Cell, list, without, seek, holds, sum}
 use Rattle.meaning.specs.Turning.{Ending, settled, dense}
 use Rattle.meaning.specs.Day.{Day, runOf, placeOf, lowest}
 use Rattle.meaning.specs.Calls.{Call, openRun, closeRun, link, unlink, ask, reading, Outcome, done, refused, linked, Tests, tests, firstRefusal, rename, ended, linkIn, doLink, cut, doUnlink, yes1, act, call}

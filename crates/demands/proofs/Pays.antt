@@ -1,32 +1,28 @@
 -- Each call pays for its reversals out of the links that disagree with the choice, one for an accepted link, and one for each
 -- link on which the choice is changed. No link that can be directed is too dense. Assumes nothing.
-use Prim.Native.Nat.{ℕ, zero, suc, _+_, _-_, _*_, _/_, _≤_, _<_}
-use mathlib.Core.Bool.{Bool, true, false, not, _||_, _&&_}
+use Prim.Native.Nat.{ℕ, _+_, _-_, _*_, _≤_, _<_}
+use mathlib.Core.Bool.{Bool, true, false}
 use mathlib.Core.List.{List, [], _∷_}
-use mathlib.Core.Option.{Option, none, some}
-use mathlib.Core.Path.{_≡_, refl, sym, ap, ap₂, subst, _∙_}
-use native.Mathlib.Nat.{mul-le-mul-left, mul-add, add-mul, mul-comm, le-refl}
+use mathlib.Core.Option.{none}
+use mathlib.Core.Path.{_≡_, refl, sym, subst, _∙_}
+use native.Mathlib.Nat.{mul-le-mul-left, le-refl}
 use native.Mathlib.Omega.{arith}
-use lib.Dec.{eqb}
 use lib.ListN.{length}
 use Rattle.terms.specs.Run.{noRun}
 use Rattle.terms.specs.Refusal.{valueOf}
-use Rattle.terms.specs.declared.run.Run.{Run}
 use Rattle.terms.specs.declared.refusal.Refusal.{Refusal}
-use Rattle.terms.specs.declared.refusal.Refusal.the-variants.{Already, NoRoom, TooDense}
-use Rattle.terms.specs.declared.refusal.Answer.{Answer}
-use Rattle.terms.specs.declared.refusal.Answer.the-variants.{Done, Refused}
+use Rattle.terms.specs.declared.refusal.Answer.the-variants.{Refused}
 use Rattle.meaning.specs.Cells.{Cell, Lists, Weight, list, holds, sum}
 use Rattle.meaning.specs.Turning.{Ending, settled, dense}
 use Rattle.meaning.specs.Day.{Day, runOf, placeOf, lowest}
-use Rattle.meaning.specs.Calls.{Call, openRun, closeRun, link, unlink, ask, reading, Outcome, done, refused, linked, Tests, tests, firstRefusal, rename, ended, linkIn, doLink, cut, doUnlink, yes1, act, call}
+use Rattle.meaning.specs.Calls.{Call, openRun, closeRun, link, unlink, ask, reading, Outcome, done, tests, firstRefusal, rename, ended, linkIn, doLink, cut, doUnlink, yes1, act, call}
 use Rattle.meaning.proofs.Right.{Right, outside, pair}
 use Rattle.meaning.proofs.Sums.{push-sum, push-length}
 use Rattle.meaning.proofs.Waiting.{none-waits}
 use Rattle.meaning.proofs.Turnings.{Ends, Settles, Stands, begun, begun-waits}
-use Rattle.meaning.proofs.Finding.{Both, Failed, both-named, all-failed}
+use Rattle.meaning.proofs.Finding.{Both}
 use Rattle.meaning.proofs.Kept.{joined, run, link-run, joined-stands, new-link, call-case}
-use Rattle.demands.specs.History.{accepts, taken, reversed, weigh, Directions, unsure, outward, Directed, DirectedWith, changed, disagree}
+use Rattle.demands.specs.History.{accepts, taken, reversed, weigh, Directions, unsure, outward, Directed, changed, disagree}
 use Rattle.demands.proofs.Choices.{by, by-even, unsure-swaps, outward-swaps, turned, turned-swaps, one-way, Fewer, fewer-pays}
 use Rattle.demands.proofs.Potential.{holding, potential, Paid, turning-paid}
 use Rattle.demands.proofs.Law.{rename-weigh, cut-fewer, open-untouched, close-untouched}

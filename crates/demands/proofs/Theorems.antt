@@ -1,16 +1,14 @@
 -- Demands 2 and 3 proved, over any calls from the empty day. Assumes nothing.
 use Prim.Native.Nat.{ℕ, _+_, _-_, _*_, _≤_}
 use mathlib.Core.Bool.{false}
-use mathlib.Core.Path.{_≡_, refl, sym, ap, _∙_}
+use mathlib.Core.Path.{_≡_, sym, ap, _∙_}
 use native.Mathlib.Nat.{add-zero}
 use native.Mathlib.Omega.{arith}
 use Rattle.terms.specs.declared.run.Run.{Run}
 use Rattle.meaning.specs.Day.{Day, emptyDay}
-use Rattle.meaning.specs.Calls.{yes1}
-use Rattle.meaning.proofs.Right.{Right}
 use Rattle.meaning.proofs.Kept.{empty-right, empty-sum}
-use Rattle.demands.specs.History.{after, joinings, partings, asked, accepted, reversals, Directions, disagree, History, calls, AllDirected, changes, final}
-use Rattle.demands.specs.Demands.{Yes, Count, Short, Demand2, Apart, Demand3, Demand3From, NeverDense}
+use Rattle.demands.specs.History.{after, asked, accepted, reversals, disagree, calls, changes, final}
+use Rattle.demands.specs.Demands.{Yes, Count, Short, Demand2, Apart, Demand3, NeverDense}
 use Rattle.demands.proofs.Asking.{asked-between}
 use Rattle.demands.proofs.Histories.{after-right, related-from, count-from, apart-from, demand-3-from}
 use Rattle.demands.proofs.Dense.{never-dense-from}
