@@ -43,7 +43,7 @@ history =
     (openRun a, early) ∷ (openRun b, early) ∷ (openRun c, early) ∷ (openRun e, early) ∷ (link a b, early) ∷ (link a c, early) ∷ (link a e, late) ∷ []
 
 -- a name is at most one of two different ones
-not-two : (p x y : Run) → sameRun x y ≡ false → yes1 (sameRun p x) + yes1 (sameRun p y) ≤ 1
+pub not-two : (p x y : Run) → sameRun x y ≡ false → yes1 (sameRun p x) + yes1 (sameRun p y) ≤ 1
 not-two p x y n = go (sameRun p x) refl (sameRun p y) refl
   where
     go : (s : Bool) → sameRun p x ≡ s → (t : Bool) → sameRun p y ≡ t → yes1 s + yes1 t ≤ 1

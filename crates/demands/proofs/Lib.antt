@@ -8,3 +8,4 @@ pub mod Dense
 pub mod Histories
 pub mod Theorems
 pub mod Example
+pub mod Sharp
