@@ -1,20 +1,19 @@
 -- Laws of pairs of runs and of choices of directions, and of sums over the links that stand by their runs. Assumes nothing.
-use Prim.Native.Nat.{ℕ, zero, suc, _+_, _-_, _*_, _≤_, _<_, min}
-use mathlib.Core.Bool.{Bool, true, false, not, _||_, _&&_}
-use mathlib.Core.List.{List, [], _∷_}
+use Prim.Native.Nat.{ℕ, _+_, _-_, _*_, _≤_, min}
+use mathlib.Core.Bool.{Bool, true, false, _||_, _&&_}
 use mathlib.Core.Logic.{_⊎_, inl, inr, ⊎-elim}
-use mathlib.Core.Path.{_≡_, refl, sym, ap, _∙_}
+use mathlib.Core.Path.{_≡_, refl, ap}
 use native.Mathlib.Decide.{ℕ-discrete}
 use native.Mathlib.Nat.{mul-comm, min-eq-left}
 use native.Mathlib.Omega.{arith}
 use Rattle.terms.specs.Run.{sameRun}
 use Rattle.terms.specs.declared.run.Run.{Run}
 use Rattle.terms.proofs.Names.{same-refl, same-eq as run-eq}
-use Rattle.meaning.specs.Cells.{Cell, Lists, Weight, aimed, list, sum, same}
+use Rattle.meaning.specs.Cells.{Cell, Lists, Weight, sum, same}
 use Rattle.meaning.specs.Day.{Day, runOf}
 use Rattle.meaning.specs.Calls.{yes1}
-use Rattle.meaning.proofs.Sums.{same-eq, same-ne, same-le, Has, sum-le-in, sum-mem, sum-add, sum-ext, Even}
-use Rattle.demands.specs.History.{samePair, weigh, between, Directions, unsure, outward, Directed, differ, changed, disagree}
+use Rattle.meaning.proofs.Sums.{same-ne, Has, sum-le-in, sum-mem, sum-add, sum-ext, Even}
+use Rattle.demands.specs.History.{samePair, weigh, between, Directions, unsure, outward, differ, changed, disagree}
 
 -- ---- pairs
 pub yes-le : (b : Bool) → yes1 b ≤ 1

@@ -1,8 +1,8 @@
 -- The potential of source document 004: the links that disagree with a choice of directions. Each turn lowers it, by enough to
 -- pay for its reversals, so turning settles. Assumes nothing.
-use Prim.Native.Nat.{ℕ, zero, suc, _+_, _-_, _*_, _≤_, _<_}
+use Prim.Native.Nat.{ℕ, _+_, _-_, _*_, _≤_, _<_}
 use mathlib.Core.List.{List, [], _∷_, List·Memᴰ, List·Memᴰ·head, List·Memᴰ·tail}
-use mathlib.Core.Path.{_≡_, refl, sym, ap, _∙_}
+use mathlib.Core.Path.{_≡_, refl, ap, _∙_}
 use native.Mathlib.Nat.{mul-le-mul, mul-add, add-mul, mul-comm, mul-left-comm}
 use native.Mathlib.Omega.{arith}
 use lib.ListN.{length}

@@ -1,6 +1,6 @@
 -- Demands 2 and 3 as statements, over any calls from the empty day with n places and C cells; proofs/Theorems.antt proves each.
 use Prim.Native.Nat.{ℕ, _+_, _-_, _*_, _/_, _≤_}
-use mathlib.Core.Bool.{Bool, false, _||_}
+use mathlib.Core.Bool.{false, _||_}
 use mathlib.Core.List.{List}
 use mathlib.Core.Path.{_≡_}
 use lib.ListN.{length}

@@ -6,22 +6,21 @@ use mathlib.Core.List.{List, [], _∷_}
 use mathlib.Core.Logic.{_⊎_, inl, inr}
 use mathlib.Core.Option.{Option, none, some}
 use mathlib.Core.Path.{_≡_, refl, sym, ap, _∙_}
-use native.Mathlib.Decide.{ℕ-discrete}
 use native.Mathlib.Nat.{mul-comm}
 use native.Mathlib.Omega.{arith}
-use lib.Dec.{eqb, ltb, leb, leb·suc-suc}
-use lib.ListN.{length, getD, set, List·getD-eq-default}
-use borrow.Author.Tests.{eqb-true, eqb-false, ltb-true, ltb-false, leb-false, not-true, not-false, lt-ltb}
-use Rattle.terms.specs.Run.{noRun, badName, sameRun, lineMost}
+use lib.Dec.{eqb, ltb, leb·suc-suc}
+use lib.ListN.{length, getD, List·getD-eq-default}
+use borrow.Author.Tests.{eqb-true, eqb-false, ltb-true, ltb-false, not-false, lt-ltb}
+use Rattle.terms.specs.Run.{noRun, badName, sameRun}
 use Rattle.terms.specs.declared.run.Run.{Run}
 use Rattle.terms.specs.declared.refusal.Refusal.{Refusal}
-use Rattle.terms.proofs.Names.{good-line, same-yes, same-refl, same-eq as run-eq, same-ne as run-ne}
-use Rattle.meaning.specs.Cells.{Cell, Lists, Weight, list, first, without, seek, holds, rowSum, sum, same}
+use Rattle.terms.proofs.Names.{good-line, same-refl, same-eq as run-eq, same-ne as run-ne}
+use Rattle.meaning.specs.Cells.{Cell, Lists, list, without, seek, holds, rowSum, sum, same}
 use Rattle.meaning.specs.Day.{Day, runOf, placeOf, isOpen, lowest}
 use Rattle.meaning.specs.Calls.{Tests, pairTests, firstRefusal, linked, yes1}
-use Rattle.meaning.proofs.Lists.{first-most, first-passes, first-before, first-is}
+use Rattle.meaning.proofs.Lists.{first-passes, first-before, first-is}
 use Rattle.meaning.proofs.Right.{Right, pair}
-use Rattle.meaning.proofs.Sums.{same-eq, same-ne, same-le, sum-at, sum-add, sum-ext}
+use Rattle.meaning.proofs.Sums.{same-eq, same-ne, sum-at, sum-add, sum-ext}
 
 -- ---- links
 -- how often a list has a link to v

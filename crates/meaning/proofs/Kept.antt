@@ -1,31 +1,31 @@
 -- Every call keeps a right day right, and the empty day is right. Assumes nothing.
-use Prim.Native.Nat.{ℕ, zero, suc, _+_, _-_, _*_, _≤_, _<_, min}
-use mathlib.Core.Bool.{Bool, true, false, not, _||_}
+use Prim.Native.Nat.{ℕ, zero, suc, _+_, _-_, _*_, _≤_, _<_}
+use mathlib.Core.Bool.{Bool, true, false}
 use mathlib.Core.List.{List, [], _∷_}
 use mathlib.Core.Option.{Option, none, some}
-use mathlib.Core.Path.{_≡_, refl, sym, ap, subst, _∙_}
+use mathlib.Core.Path.{_≡_, refl, sym, ap, _∙_}
 use native.Mathlib.Decide.{ℕ-discrete}
 use native.Mathlib.Nat.{mul-zero, mul-le-mul}
 use native.Mathlib.Omega.{arith}
-use lib.Dec.{eqb, ltb, leb}
+use lib.Dec.{eqb}
 use lib.ListN.{length, getD, set, replicate, length-set, length-replicate}
 use lib.Seq.{getD-set-same, getD-set-other}
 use borrow.Author.Tests.{ltb-true, ltb-false, leb-false, not-false}
-use Rattle.terms.specs.Run.{noRun, badName, lineMost}
+use Rattle.terms.specs.Run.{noRun, lineMost}
 use Rattle.terms.specs.declared.run.Run.{Run}
 use Rattle.terms.specs.declared.refusal.Refusal.{Refusal}
 use Rattle.terms.specs.declared.refusal.Refusal.the-variants.{Already, NoRoom}
 use Rattle.terms.specs.declared.refusal.Answer.{Answer}
 use Rattle.terms.proofs.Names.{good-line}
-use Rattle.meaning.specs.Cells.{Cell, Lists, Weight, list, push, without, seek, holds, rowSum, sum, links, same}
+use Rattle.meaning.specs.Cells.{Cell, Lists, Weight, list, push, without, seek, holds, sum, links, same}
 use Rattle.meaning.specs.Turning.{over, put, Ending, settled, dense, turning}
-use Rattle.meaning.specs.Day.{Day, runOf, placeOf, isOpen, lowest, each, emptyDay}
-use Rattle.meaning.specs.Calls.{Call, openRun, closeRun, link, unlink, ask, reading, Outcome, done, refused, linked, touched, Tests, pairTests, tests, firstRefusal, rename, ended, linkIn, doLink, cut, doUnlink, yes1, act, unless, call}
-use Rattle.meaning.proofs.Right.{Right, far, outside, loop, shut, pair}
-use Rattle.meaning.proofs.Sums.{same-eq, same-ne, same-le, same-comm, rowSum-one, Has, sum-ext-in, sum-mem, sum-ext, sum-zero, set-le, push-sum, push-length, Even, pair-even, pair-comm}
-use Rattle.meaning.proofs.Waiting.{Waits, waits-none, none-waits}
+use Rattle.meaning.specs.Day.{Day, runOf, placeOf, lowest, emptyDay}
+use Rattle.meaning.specs.Calls.{Call, openRun, closeRun, link, unlink, ask, reading, Outcome, done, refused, linked, touched, Tests, tests, firstRefusal, rename, ended, linkIn, doLink, cut, doUnlink, yes1, act, unless, call}
+use Rattle.meaning.proofs.Right.{Right, outside, loop, shut, pair}
+use Rattle.meaning.proofs.Sums.{same-eq, same-ne, same-le, same-comm, rowSum-one, Has, sum-ext-in, sum-mem, sum-ext, set-le, push-sum, push-length, Even, pair-even, pair-comm}
+use Rattle.meaning.proofs.Waiting.{waits-none, none-waits}
 use Rattle.meaning.proofs.Turnings.{Ends, Stands, turning-rest, turning-stands, begun, begun-waits}
-use Rattle.meaning.proofs.Finding.{Failed, all-failed, Both, both-named, either-false, absent, place-name, lowest-free, linked-pair, without-le}
+use Rattle.meaning.proofs.Finding.{Failed, all-failed, Both, both-named, absent, lowest-free, linked-pair, without-le}
 
 -- ---- a link
 -- the lists with the new link's cell at the front of u's, and what turning makes of them

@@ -6,7 +6,7 @@ use mathlib.Core.Path.{_≡_, refl, sym, ap, _∙_}
 use native.Mathlib.Decide.{ℕ-discrete}
 use native.Mathlib.Nat.{mul-comm}
 use native.Mathlib.Omega.{arith}
-use lib.ListN.{length, getD, set, length-set}
+use lib.ListN.{length, set, length-set}
 use borrow.Author.Tests.{eq-eqb, ne-eqb}
 use Rattle.meaning.specs.Cells.{Cell, Lists, Weight, aimed, list, push, bare, rowSum, sum, links, same}
 use Rattle.meaning.specs.Turning.{Work, hand, handAll, turn}

@@ -1,17 +1,16 @@
 -- Turning as a whole: what each turn keeps holds where turning ends; it settles within m turns if each turn lowers a number
 -- that is at most m; the links stay the same links, and where it settles no list is longer than D. Assumes nothing.
 use Prim.Native.Nat.{ℕ, zero, suc, _+_, _*_, _≤_, _<_}
-use mathlib.Core.Bool.{Bool, true, false}
 use mathlib.Core.List.{List, [], _∷_}
-use mathlib.Core.Path.{_≡_, refl, sym, ap, subst, _∙_}
-use native.Mathlib.Nat.{add-mul, mul-comm}
+use mathlib.Core.Path.{_≡_, refl, _∙_}
+use native.Mathlib.Nat.{add-mul}
 use native.Mathlib.Omega.{arith}
 use lib.ListN.{length}
 use Rattle.meaning.specs.Cells.{Cell, Lists, Weight, list, push, sum, links}
 use Rattle.meaning.specs.Turning.{Work, over, put, turn, Ending, settled, dense, turning}
 use Rattle.meaning.proofs.Right.{outside}
-use Rattle.meaning.proofs.Sums.{Even, turn-even, turn-length, outside-even, links-row, push-sum, push-length}
-use Rattle.meaning.proofs.Waiting.{Waits, turn-waits, push-waits, waits-none}
+use Rattle.meaning.proofs.Sums.{Even, turn-even, turn-length, outside-even, links-row}
+use Rattle.meaning.proofs.Waiting.{Waits, turn-waits, push-waits}
 
 -- what may be said of the lists, the waiting places and the reversals so far
 abbrev pub Fact : Type 1

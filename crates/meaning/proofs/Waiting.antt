@@ -3,17 +3,17 @@
 use Prim.Native.Nat.{ℕ, zero, suc, _+_, _-_, _≤_, _<_, min}
 use mathlib.Core.Bool.{Bool, true, false}
 use mathlib.Core.List.{List, [], _∷_, List·Memᴰ, List·Memᴰ·head, List·Memᴰ·tail}
-use mathlib.Core.Path.{_≡_, refl, sym, ap, _∙_}
+use mathlib.Core.Path.{_≡_, refl, ap, _∙_}
 use native.Mathlib.Decide.{ℕ-discrete}
 use native.Mathlib.Omega.{arith}
 use lib.Dec.{eqb, ltb}
-use lib.ListN.{length, getD, set, List·getD-eq-default}
+use lib.ListN.{length, List·getD-eq-default}
 use lib.Seq.{getD-set-same, getD-set-other}
 use borrow.Author.Tests.{eqb-true, eqb-false, ltb-true, ltb-false}
 use Rattle.meaning.specs.Cells.{Cell, Lists, aimed, list, push, bare, sum, same}
 use Rattle.meaning.specs.Turning.{Work, over, put, hand, handAll, turn}
-use Rattle.meaning.proofs.Right.{far, outside}
-use Rattle.meaning.proofs.Sums.{same-eq, same-ne, same-le, same-suc, push-length, bare-length, Near, near}
+use Rattle.meaning.proofs.Right.{outside}
+use Rattle.meaning.proofs.Sums.{same-eq, same-ne, same-le, push-length, bare-length, Near, near}
 
 -- how often z waits
 abbrev pub count : ℕ → List ℕ → ℕ
