@@ -27,3 +27,4 @@ pub mod Finding
 pub mod Kept
 pub mod Empty
 pub mod EmptyDay
+pub mod Handing
