@@ -5,3 +5,4 @@ pub mod Opening
 pub mod Naming
 pub mod Shifting
 pub mod Linking
+pub mod Handling

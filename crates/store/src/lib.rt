@@ -4,3 +4,4 @@ pub mod cell;
 pub mod find;
 pub mod link;
 pub mod run;
+pub mod turning;

@@ -1,0 +1,38 @@
+// Turning lists over: the place last put to wait is taken, and the cells of its list go over to their targets, front to back.
+ghost use Prim.Native.Nat.{_+_, _≤_, _<_};
+ghost use mathlib.Core.Path.{_≡_};
+ghost use Rattle.meaning.specs.Table.{lengthOf};
+ghost use Rattle.store.specs.Turning.{Walking, Handed, Begins, Ends};
+use crate::cell;
+use table::section;
+use table::step;
+
+// No place waits any more, with the number of reversals; or one still waits after as many lists as there are links.
+pub enum Ended {
+    Settled(usize),
+    TooDense,
+}
+
+// The first cell of the list of w goes to the front of its target's list with target w; the target waits if its length becomes
+// d + 1. The new number of waiting places.
+fn hand(
+    store: &mut [u32],
+    waiting: &mut [u32],
+    n: usize,
+    c: usize,
+    d: usize,
+    w: usize,
+    top: usize,
+) -> usize
+    requires { ⌜ Walking n c d w (now store) (now waiting) top × (0 < lengthOf n c (now store) w) ⌝ }
+    ensures { λ r. ⌜ Handed n c d w (now (store .entry)) (now (waiting .entry)) top (now (store .exit)) (now (waiting .exit)) r ⌝ }
+{
+    let spot = cell::front(store, n, c, w);
+    let x = section::target(store, n, c, spot.cell);
+    let many = cell::shift(store, n, c, w, spot, x, w);
+    if many == d + 1 {
+        step::put(waiting, top, x);
+        return top + 1;
+    }
+    top
+}
