@@ -1,3 +1,4 @@
 -- Laws for the calls on a sound store.
 pub mod Finding
 pub mod Carrying
+pub mod Touching
