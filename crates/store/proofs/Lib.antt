@@ -2,3 +2,5 @@
 pub mod Finding
 pub mod Carrying
 pub mod Touching
+pub mod Rising
+pub mod Setting
