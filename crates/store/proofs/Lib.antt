@@ -6,3 +6,6 @@ pub mod Naming
 pub mod Shifting
 pub mod Linking
 pub mod Handling
+pub mod Touching
+pub mod Rising
+pub mod Setting

@@ -1,3 +1,4 @@
 pub mod Find
 pub mod Cell
 pub mod Turning
+pub mod Set

@@ -4,4 +4,6 @@ pub mod cell;
 pub mod find;
 pub mod link;
 pub mod run;
+pub mod set;
+pub mod touch;
 pub mod turning;
