@@ -9,3 +9,4 @@ pub mod Handling
 pub mod Touching
 pub mod Rising
 pub mod Setting
+pub mod Turns

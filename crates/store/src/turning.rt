@@ -36,3 +36,44 @@ fn hand(
     }
     top
 }
+
+// Turning, with the place a alone waiting: at most m lists are turned. The walk over a turned list takes its first cell each time,
+// so the list is empty where it ends.
+pub fn turning(
+    store: &mut [u32],
+    waiting: &mut [u32],
+    n: usize,
+    c: usize,
+    d: usize,
+    m: usize,
+    a: usize,
+) -> Ended
+    requires { ⌜ Begins n c d m a (now store) (now waiting) ⌝ }
+    ensures { λ r. ⌜ Ends r n c d m a (now (store .entry)) (now (store .exit)) ⌝ }
+{
+    step::put(waiting, 0, a);
+    let mut top: usize = 1;
+    let mut turned: usize = 0;
+    let mut reversals: usize = 0;
+    let ended = loop {
+        if top == 0 {
+            break Ended::Settled(reversals);
+        }
+        if turned == m {
+            break Ended::TooDense;
+        }
+        top -= 1;
+        let w = section::word(waiting, top);
+        let mut left = section::count(store, n, c, w);
+        reversals += left;
+        'walk: loop {
+            if left == 0 {
+                break 'walk;
+            }
+            top = hand(store, waiting, n, c, d, w, top);
+            left -= 1;
+        }
+        turned += 1;
+    };
+    ended
+}
