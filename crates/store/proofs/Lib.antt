@@ -10,3 +10,4 @@ pub mod Touching
 pub mod Rising
 pub mod Setting
 pub mod Turns
+pub mod Joining

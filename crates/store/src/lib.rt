@@ -2,6 +2,7 @@
 // calls has judged the table, once for as many calls as it likes.
 pub mod cell;
 pub mod find;
+pub mod join;
 pub mod link;
 pub mod run;
 pub mod set;
