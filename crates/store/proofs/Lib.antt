@@ -11,3 +11,4 @@ pub mod Rising
 pub mod Setting
 pub mod Turns
 pub mod Joining
+pub mod Relating

@@ -57,13 +57,13 @@ module _ (n C D : ℕ) (w : List ℕ) (s : Sound n C D w) (p q : Run) where
   unlink-barred why h = bars (unlink p q) ((not (linked (dayOf n C w) (placeOf (dayOf n C w) p) (placeOf (dayOf n C w) q)), NoLink) ∷ []) why refl h
 
   module _ (e : Ends) (f : Found n C w p q e) where
-    in-first : (k : Spot) → Spotted k n C w (e .first) (e .second) → linked (dayOf n C w) (e .first) (e .second) ≡ true
+    pub in-first : (k : Spot) → Spotted k n C w (e .first) (e .second) → linked (dayOf n C w) (e .first) (e .second) ≡ true
     in-first k h = rw (has-link n C w T (e .first) (e .second) (f .first-place) k h)
 
-    in-second : (k : Spot) → Absent n C w (e .first) (e .second) → Spotted k n C w (e .second) (e .first) → linked (dayOf n C w) (e .first) (e .second) ≡ true
+    pub in-second : (k : Spot) → Absent n C w (e .first) (e .second) → Spotted k n C w (e .second) (e .first) → linked (dayOf n C w) (e .first) (e .second) ≡ true
     in-second k a h = rw (no-link n C w T (e .first) (e .second) (f .first-place) a, has-link n C w T (e .second) (e .first) (f .second-place) k h)
 
-    in-neither : Absent n C w (e .first) (e .second) → Absent n C w (e .second) (e .first) → linked (dayOf n C w) (e .first) (e .second) ≡ false
+    pub in-neither : Absent n C w (e .first) (e .second) → Absent n C w (e .second) (e .first) → linked (dayOf n C w) (e .first) (e .second) ≡ false
     in-neither a b = rw (no-link n C w T (e .first) (e .second) (f .first-place) a, no-link n C w T (e .second) (e .first) (f .second-place) b)
 
     asked : (b : Bool) → linked (dayOf n C w) (e .first) (e .second) ≡ b → Carries n C D (ask p q) w (Done (yes1 b)) w

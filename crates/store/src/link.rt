@@ -1,8 +1,8 @@
-// Asking about a link and unlinking.
+// Asking about a link, linking and unlinking two named runs.
 ghost use Prim.Native.Nat.{_<_};
 ghost use mathlib.Core.Path.{_≡_};
 ghost use Rattle.meaning.specs.Calls.{ask, unlink};
-ghost use Rattle.meaning.specs.Promise.{Carries};
+ghost use Rattle.meaning.specs.Promise.{Carries, Lent, LinkCarries};
 ghost use Rattle.meaning.specs.Soundness.{Sound};
 ghost use Rattle.meaning.specs.Table.{NONE};
 ghost use Rattle.meaning.proofs.Steps.{moved};
@@ -13,6 +13,7 @@ use crate::find;
 use crate::find::Linked;
 use crate::find::Named;
 use crate::find::Spot;
+use crate::join::join;
 use table::section;
 use terms::refusal::Answer;
 use terms::refusal::Refusal;
@@ -61,6 +62,34 @@ pub fn unlink(store: &mut [u32], n: usize, c: usize, d: usize, p: Run, q: Run) -
                     Answer::Done(0)
                 }
                 Linked::Neither => Answer::Refused(Refusal::NoLink),
+            }
+        }
+    }
+}
+
+// A new link leaves the first run: its cell goes to the front of that run's list.
+pub fn link(
+    store: &mut [u32],
+    spare: &mut [u32],
+    waiting: &mut [u32],
+    n: usize,
+    c: usize,
+    d: usize,
+    p: Run,
+    q: Run,
+) -> Answer
+    requires { ⌜ Lent n c d (now store) (now spare) (now waiting) × Sound n c d (now store) ⌝ }
+    ensures { λ r. ⌜ LinkCarries n c d p q (now (store .entry)) (now (spare .entry)) (now (waiting .entry)) r (now (store .exit)) (now (spare .exit)) (now (waiting .exit)) ⌝ }
+{
+    match find::both(store, n, c, p, q) {
+        Named::Refused(why) => Answer::Refused(why),
+        Named::Both(ends) => {
+            let u = ends.first;
+            let v = ends.second;
+            match find::link_of(store, n, c, u, v) {
+                Linked::InFirst(_) => Answer::Refused(Refusal::Already),
+                Linked::InSecond(_) => Answer::Refused(Refusal::Already),
+                Linked::Neither => join(store, spare, waiting, n, c, d, u, v),
             }
         }
     }
