@@ -3,7 +3,6 @@ ghost use Prim.Native.Nat.{_≤_, _<_};
 ghost use Rattle.meaning.proofs.Judged.{Lengths, Aim, CellOk, Walks};
 ghost use Rattle.table.specs.Within.{Within, AtPlace, AtList, AtCell};
 ghost use Rattle.terms.specs.Tells.{Tells};
-
 use table::section;
 use table::section::NONE;
 

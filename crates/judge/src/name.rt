@@ -6,7 +6,6 @@ ghost use Rattle.judge.specs.Bucket.{bucketOf, Chains, Lasts};
 ghost use Rattle.meaning.proofs.Judged.{Line, Differ, Fresh};
 ghost use Rattle.table.specs.Within.{Within, AtPlace};
 ghost use Rattle.terms.specs.Tells.{Tells};
-
 use table::section;
 use terms::run::Run;
 

@@ -4,7 +4,6 @@ ghost use Prim.Native.Nat.{_≤_, _<_};
 ghost use Rattle.meaning.proofs.Judged.{CellOk, Walks, Has, Lone, Alone};
 ghost use Rattle.table.specs.Within.{Within, AtPlace};
 ghost use Rattle.terms.specs.Tells.{Tells};
-
 use table::section;
 
 // One of the k cells from i on has target t.

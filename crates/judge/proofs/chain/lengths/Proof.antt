@@ -1,60 +1,54 @@
+-- `judge::chain::lengths` meets its contract. The loop's invariant: the sum is that of the lengths below v, each of which is at
+-- most d. Assumes nothing.
+use Prim.Native.Nat.{ℕ, _*_, _-_, _≤_, _<_}
+use mathlib.Core.Path.{_≡_, sym, _∙_}
+use borrow.Author.Count.{below-none, below-more}
+use Rattle.meaning.specs.Table.{lengthOf}
+use Rattle.meaning.specs.Soundness as meant
+use Rattle.meaning.proofs.Judged.{lengths-none, lengths-more, lengths-end}
 use borrow.Author.Needs.{needs}
 use native.Mathlib.Omega.{arith}
 use Rattle.judge.proofs.chain.lengths.Statement.{statement}
 use Rattle.judge.proofs.chain.lengths.Tie as tie
-use Rattle.judge.proofs.chain.lengths.Reads as reads
-use Rattle.judge.proofs.chain.lengths.Lts as lts
-use Rattle.table.proofs.section.count.Reads as count-reads
 
 abbrev Inv-loop : tie.InvT-loop
-Inv-loop store n c d sum₀ v₀ sum v = ?
+Inv-loop store n c d sum₀ v₀ sum v = (v ≤ n) × (sum ≡ meant.lengths n c store v) × (sum ≤ 64 * v) × ((u : ℕ) → u < v → lengthOf n c store u ≤ d)
 
 abbrev μ-loop : tie.MeasureT-loop
-μ-loop store n c d sum₀ v₀ sum v = ?
+μ-loop store n c d sum₀ v₀ sum v = n - v
 
--- src/chain.rt:17:5
 loop-holds : tie.Need-loop-holds Inv-loop μ-loop
-loop-holds c = search needs
+loop-holds c = (omega arith, sym (lengths-none _ _ _), omega arith, below-none _)
 
--- src/chain.rt:18:13
 count-requires : tie.Need-count-requires Inv-loop μ-loop
 count-requires c κs = search needs
 
--- src/chain.rt:20:13
 returns : tie.Need-returns Inv-loop μ-loop
-returns c = search needs
+returns c = λ h. let z = h .short (c .before .before .before .loop .v) (omega arith) in omega arith
 
--- src/chain.rt:22:9
 add-sum : tie.Need-add-sum Inv-loop μ-loop
 add-sum c = search needs
 
--- src/chain.rt:23:9
 add-v : tie.Need-add-v Inv-loop μ-loop
 add-v c = search needs
 
--- src/chain.rt:17:5
 loop-less : tie.Need-loop-less Inv-loop μ-loop
 loop-less c = search needs
 
--- src/chain.rt:17:5
 loop-again : tie.Need-loop-again Inv-loop μ-loop
-loop-again c = search needs
+loop-again c = (omega arith, simp lengths-more (omega arith), omega arith, below-more _ _ (c .before .before .before .loop .inv .3) (omega arith))
 
--- src/chain.rt:25:9
 count-requires-2 : tie.Need-count-requires-2 Inv-loop μ-loop
 count-requires-2 c κs = search needs
 
--- src/chain.rt:26:8
 add-if2 : tie.Need-add-if2 Inv-loop μ-loop
 add-if2 c = search needs
 
--- src/chain.rt:27:9
 returns-2 : tie.Need-returns-2 Inv-loop μ-loop
-returns-2 c = search needs
+returns-2 c = record { whole = lengths-end _ _ _ _ _ _ (c .before .before .before .loop .inv .1) (omega arith) (c .before .count2 .ensures .0) ∙ c .if2 .taken; short = λ v h. c .before .before .before .loop .inv .3 v (omega arith) }
 
--- src/chain.rt:11:1
 returns-3 : tie.Need-returns-3 Inv-loop μ-loop
-returns-3 c = search needs
+returns-3 c = λ h. c .if2 .left (sym (lengths-end _ _ _ _ _ _ (c .before .before .before .loop .inv .1) (omega arith) (c .before .count2 .ensures .0)) ∙ h .whole)
 
 pub lengths-spec : {M : Type 1} → statement M
 lengths-spec =

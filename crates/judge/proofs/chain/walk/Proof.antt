@@ -1,53 +1,47 @@
+-- `judge::chain::walk` meets its contract. The loop's invariant: what is left of the walk says what the whole one says. The measure
+-- is what is left of the length, so that it ends on every table. Assumes nothing.
+use Rattle.terms.proofs.Told.{passed, failed}
+use Rattle.meaning.proofs.Judged.{Walks, walks-out, walks-in, walks-end}
 use borrow.Author.Needs.{needs}
 use native.Mathlib.Omega.{arith}
 use Rattle.judge.proofs.chain.walk.Statement.{statement}
 use Rattle.judge.proofs.chain.walk.Tie as tie
-use Rattle.judge.proofs.chain.walk.Reads as reads
-use Rattle.judge.proofs.chain.walk.Lts as lts
-use Rattle.judge.proofs.chain.cell.Reads as cell-reads
-use Rattle.table.proofs.section.next.Reads as next-reads
 
 abbrev Inv-loop : tie.InvT-loop
-Inv-loop store n c v k i left₀ at₀ left at = ?
+Inv-loop store n c v k i left₀ at₀ left at = (Walks n c store v left at → Walks n c store v k i) × (Walks n c store v k i → Walks n c store v left at)
 
 abbrev μ-loop : tie.MeasureT-loop
-μ-loop store n c v k i left₀ at₀ left at = ?
+μ-loop store n c v k i left₀ at₀ left at = left
 
--- src/chain.rt:86:5
 loop-holds : tie.Need-loop-holds Inv-loop μ-loop
-loop-holds c = search needs
+loop-holds c = (λ p. p, λ p. p)
 
--- src/chain.rt:87:13
 cell-requires : tie.Need-cell-requires Inv-loop μ-loop
 cell-requires c κs = search needs
 
--- src/chain.rt:88:13
 returns : tie.Need-returns Inv-loop μ-loop
-returns c = search needs
+returns c = λ h. failed (c .before .cell .result) (c .if1 .taken) (c .before .cell .ensures) (walks-out _ _ _ _ _ _ (c .before .before .loop-test .taken) (c .before .before .before .loop .inv .1 h) .0)
 
--- src/chain.rt:90:9
 next-requires : tie.Need-next-requires Inv-loop μ-loop
-next-requires c κs = search needs
+next-requires c κs = record { within = search needs; cell = passed (c .before .cell .result) (c .if1 .left) (c .before .cell .ensures) .within }
 
--- src/chain.rt:91:9
 sub-left : tie.Need-sub-left Inv-loop μ-loop
 sub-left c = search needs
 
--- src/chain.rt:86:5
 loop-less : tie.Need-loop-less Inv-loop μ-loop
 loop-less c = search needs
 
--- src/chain.rt:86:5
 loop-again : tie.Need-loop-again Inv-loop μ-loop
-loop-again c = search needs
+loop-again c =
+    let inv = c .before .before .before .before .loop .inv in
+    let more = c .before .before .before .loop-test .taken in
+    rw (c .next .ensures .0) (λ p. inv .0 (walks-in _ _ _ _ _ _ more (passed (c .before .before .cell .result) (c .before .if1 .left) (c .before .before .cell .ensures)) p), λ p. walks-out _ _ _ _ _ _ more (inv .1 p) .1)
 
--- src/chain.rt:94:9
 returns-2 : tie.Need-returns-2 Inv-loop μ-loop
-returns-2 c = search needs
+returns-2 c = c .before .before .loop .inv .0 (walks-end _ _ _ _ _ _ (omega arith) .1 (c .if2 .taken))
 
--- src/chain.rt:80:1
 returns-3 : tie.Need-returns-3 Inv-loop μ-loop
-returns-3 c = search needs
+returns-3 c = λ h. c .if2 .left (walks-end _ _ _ _ _ _ (omega arith) .0 (c .before .before .loop .inv .1 h))
 
 pub walk-spec : {M : Type 1} → statement M
 walk-spec =

@@ -1,60 +1,52 @@
+-- `judge::name::fresh` meets its contract. The loop's invariant: the walk through v's bucket has come to u (Buckets). The measure is
+-- u, since each place's chain goes down. Assumes nothing.
+use Rattle.terms.proofs.Told.{passed, failed}
+use Rattle.judge.proofs.Buckets.{Walked, walk-starts, walk-goes, walk-falls, walk-ends}
 use borrow.Author.Needs.{needs}
 use native.Mathlib.Omega.{arith}
 use Rattle.judge.proofs.name.fresh.Statement.{statement}
 use Rattle.judge.proofs.name.fresh.Tie as tie
-use Rattle.judge.proofs.name.fresh.Reads as reads
-use Rattle.judge.proofs.name.fresh.Lts as lts
-use Rattle.judge.proofs.name.differ.Reads as differ-reads
 
 abbrev Inv-loop : tie.InvT-loop
-Inv-loop store n c v last before u₀ u = ?
+Inv-loop store n c v last before u₀ u = Walked n c store v u
 
 abbrev μ-loop : tie.MeasureT-loop
-μ-loop store n c v last before u₀ u = ?
+μ-loop store n c v last before u₀ u = u
 
--- src/name.rt:73:5
 loop-holds : tie.Need-loop-holds Inv-loop μ-loop
-loop-holds c = search needs
+loop-holds c = walk-starts _ _ _ _ _ (c .before .pre .1 .start)
 
--- src/name.rt:74:36
 sub-differ : tie.Need-sub-differ Inv-loop μ-loop
 sub-differ c = search needs
 
--- src/name.rt:74:13
 differ-requires : tie.Need-differ-requires Inv-loop μ-loop
 differ-requires c κs = search needs
 
--- src/name.rt:75:13
 returns : tie.Need-returns Inv-loop μ-loop
-returns c = search needs
+returns c = λ h. failed (c .before .differ .result) (c .if1 .taken) (c .before .differ .ensures) (h _ (omega arith))
 
--- src/name.rt:77:20
 sub-u : tie.Need-sub-u Inv-loop μ-loop
 sub-u c = search needs
 
--- src/name.rt:77:13
 mul-u : tie.Need-mul-u Inv-loop μ-loop
 mul-u c = search needs
 
--- src/name.rt:77:13
 element-copy-out-u : tie.Need-element-copy-out-u Inv-loop μ-loop
 element-copy-out-u c = search needs
 
--- src/name.rt:77:13
 cast-u : tie.Need-cast-u Inv-loop μ-loop
-cast-u c = search needs
+cast-u c =
+    let falls = walk-falls _ _ _ _ _ _ (c .before .before .before .loop-test .taken) (c .before .before .before .before .before .before .pre .1 .befores) (c .before .before .before .before .loop .inv) in
+    omega (arith, c .before .before .before .before .loop .inv, c .before .before .before .before .before .before .pre)
 
--- src/name.rt:73:5
 loop-less : tie.Need-loop-less Inv-loop μ-loop
-loop-less c = search needs
+loop-less c = walk-falls _ _ _ _ _ _ (c .before .before .before .loop-test .taken) (c .before .before .before .before .before .before .pre .1 .befores) (c .before .before .before .before .loop .inv)
 
--- src/name.rt:73:5
 loop-again : tie.Need-loop-again Inv-loop μ-loop
-loop-again c = search needs
+loop-again c = walk-goes _ _ _ _ _ _ (c .before .before .before .loop-test .taken) (c .before .before .before .before .before .before .pre .1 .befores) (c .before .before .before .before .loop .inv) (passed (c .before .before .differ .result) (c .before .if1 .left) (c .before .before .differ .ensures))
 
--- src/name.rt:68:1
 returns-2 : tie.Need-returns-2 Inv-loop μ-loop
-returns-2 c = search needs
+returns-2 c = walk-ends _ _ _ _ _ (c .loop-test .left) (c .before .loop .inv)
 
 pub fresh-spec : {M : Type 1} → statement M
 fresh-spec =

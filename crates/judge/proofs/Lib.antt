@@ -1,0 +1,2 @@
+-- What the name test's buckets show.
+pub mod Buckets

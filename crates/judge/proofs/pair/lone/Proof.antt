@@ -1,0 +1,52 @@
+-- `judge::pair::lone` meets its contract: both lists that can have the pair are looked through. Assumes nothing.
+use Rattle.terms.proofs.Told.{yes-told, no-told}
+use native.Mathlib.Omega.{arith}
+use borrow.Author.Needs.{needs}
+use Rattle.judge.proofs.pair.lone.Statement.{statement}
+use Rattle.judge.proofs.pair.lone.Tie as tie
+
+target-requires : tie.Need-target-requires
+target-requires c κs = search needs
+
+next-requires : tie.Need-next-requires
+next-requires c κs = search needs
+
+has-requires : tie.Need-has-requires
+has-requires c κs = search needs
+
+returns : tie.Need-returns
+returns c = λ h. h .later (rw (c .before .before .before .target .ensures .0, c .before .before .next .ensures .0) at (yes-told (c .before .has .result) (c .if1 .taken) (c .before .has .ensures)))
+
+head-requires : tie.Need-head-requires
+head-requires c κs = record { within = search needs; list = omega (arith, c .before .before .before .before .before .pre .1 .aims .0 (c .before .before .before .before .before .pre .0 .place) .place) }
+
+count-requires : tie.Need-count-requires
+count-requires c κs = record { within = search needs; list = omega (arith, c .before .before .before .before .before .before .pre .1 .aims .0 (c .before .before .before .before .before .before .pre .0 .place) .place) }
+
+has-requires-2 : tie.Need-has-requires-2
+has-requires-2 c κs = search needs
+
+returns-2 : tie.Need-returns-2
+returns-2 c = λ h. h .back (rw (c .before .before .before .head .ensures .0, c .before .before .count .ensures .0, c .before .before .before .before .before .before .before .target .ensures .0) at (yes-told (c .before .has2 .result) (c .if2 .taken) (c .before .has2 .ensures)))
+
+returns-3 : tie.Need-returns-3
+returns-3 c =
+    record {
+      later = rw (c .before .before .before .before .before .before .before .target .ensures .0, c .before .before .before .before .before .before .next .ensures .0) at (no-told (c .before .before .before .before .before .has .result) (c .before .before .before .before .if1 .left) (c .before .before .before .before .before .has .ensures));
+      back = rw (c .before .before .before .head .ensures .0, c .before .before .count .ensures .0, c .before .before .before .before .before .before .before .target .ensures .0) at
+          (no-told (c .before .has2 .result) (c .if2 .left) (c .before .has2 .ensures));
+    }
+
+pub lone-spec : {M : Type 1} → statement M
+lone-spec =
+    tie.close
+    (tie.spec
+    target-requires
+    next-requires
+    has-requires
+    returns
+    head-requires
+    count-requires
+    has-requires-2
+    returns-2
+    returns-3)
