@@ -18,9 +18,8 @@ pub filled-more : (goal now : List ℕ) (i x : ℕ) → Filled goal now i → i 
 filled-more goal now i x f h e = record {
   long = length-set now i x ∙ f .long;
   agrees = λ k q. elim (ℕ-discrete k i) [
-    | yes r ↦ rw r (getD-set-same now i x 0 (omega (arith, f .long)) ∙ e)
-    | no r ↦ getD-set-other now i k x 0 r ∙ f .agrees k (omega (arith, r))
-  ];
+      yes r ↦ rw r (getD-set-same now i x 0 (omega (arith, f .long)) ∙ e)
+    | no r ↦ getD-set-other now i k x 0 r ∙ f .agrees k (omega (arith, r)) ];
 }
 
 pub filled-all : (goal now : List ℕ) (i : ℕ) → Filled goal now i → length goal ≤ i → now ≡ goal

@@ -30,11 +30,9 @@ loop-less : tie.Need-loop-less Inv-loop μ-loop
 loop-less c = search needs
 
 loop-again : tie.Need-loop-again Inv-loop μ-loop
-loop-again c = (
-  simp length-set (omega arith),
-  filled-more _ _ _ _ (c .before .loop .inv .1) (rw length-replicate (omega arith))
-      (sym (getD-replicate (length (c .before .before .args .table .now)) (c .before .loop .i) 0 0 (omega arith))),
-)
+loop-again c =
+    (simp length-set (omega arith), filled-more _ _ _ _ (c .before .loop .inv .1) (rw length-replicate (omega arith))
+    (sym (getD-replicate (length (c .before .before .args .table .now)) (c .before .loop .i) 0 0 (omega arith))))
 
 same-length : tie.Need-same-length Inv-loop μ-loop
 same-length c = search needs
