@@ -8,7 +8,7 @@ use table::section::NONE;
 
 // The lengths of all lists add up to c, and those of places are at most d.
 pub fn lengths(store: &[u32], n: usize, c: usize, d: usize) -> bool
-    requires { ⌜ Within n c (now store) × (d ≤ 64) ⌝ }
+    requires { ⌜ Within n c (now store) ⌝ }
     ensures { λ r. ⌜ Tells r (Lengths n c (now (store .entry)) d) ⌝ }
 {
     let mut sum: usize = 0;

@@ -12,7 +12,7 @@ use Rattle.judge.proofs.chain.lengths.Statement.{statement}
 use Rattle.judge.proofs.chain.lengths.Tie as tie
 
 abbrev Inv-loop : tie.InvT-loop
-Inv-loop store n c d sum₀ v₀ sum v = (v ≤ n) × (sum ≡ meant.lengths n c store v) × (sum ≤ 64 * v) × ((u : ℕ) → u < v → lengthOf n c store u ≤ d)
+Inv-loop store n c d sum₀ v₀ sum v = (v ≤ n) × (sum ≡ meant.lengths n c store v) × (sum ≤ 4294967296 * v) × ((u : ℕ) → u < v → lengthOf n c store u ≤ d)
 
 abbrev μ-loop : tie.MeasureT-loop
 μ-loop store n c d sum₀ v₀ sum v = n - v
