@@ -10,14 +10,14 @@ use lib.Seq.{getD-set-same, getD-set-other}
 use borrow.Author.Count.{below-none}
 use Rattle.meaning.specs.Table.{lineOf, numberOf}
 use Rattle.meaning.proofs.Judged.{Differ, Fresh}
-use Rattle.judge.specs.Bucket.{bucketOf, Last, Befores, Chains, Lasts}
+use Rattle.judge.specs.Bucket.{buckets, bucketOf, Last, Befores, Chains, Lasts}
 
 less-one : (v : ℕ) → v + 1 - 1 ≡ v
 less-one v = omega arith
 
 module _ (n C : ℕ) (w : List ℕ) where
   pub bucket-is : (v a b : ℕ) → a ≡ lineOf n C w v → b ≡ numberOf n C w v →
-      ((b + 4099 * a) % 8192 ≡ bucketOf n C w v) × ((b + 4099 * a) % 8192 < 8192)
+      ((b + 4099 * a) % buckets ≡ bucketOf n C w v) × ((b + 4099 * a) % buckets < buckets)
   unfolding bucketOf
   bucket-is v a b p q = (rw (p, q), omega arith)
 
@@ -68,32 +68,32 @@ module _ (n C : ℕ) (w : List ℕ) where
   walk-ends v u z g j h o p q = g .seen j h (omega arith) (one-bucket j v p q) o p q
 
   -- no place yet: every bucket is empty
-  pub lasts-none : Lasts n C w 0 (replicate 8192 0)
+  pub lasts-none : Lasts n C w 0 (replicate buckets 0)
   lasts-none = record {
-    long = length-replicate {A = ℕ} 8192 0;
-    each = λ b h. rw (getD-replicate {A = ℕ} 8192 b 0 0 h) (record { most = omega arith; mine = λ p. absurd (omega arith); above = λ j p e. absurd (omega arith) });
+    long = length-replicate {A = ℕ} buckets 0;
+    each = λ b h. rw (getD-replicate {A = ℕ} buckets b 0 0 h) (record { most = omega arith; mine = λ p. absurd (omega arith); above = λ j p e. absurd (omega arith) });
   }
 
-  pub befores-none : Befores n C w 0 (replicate 4096 0)
-  befores-none = record { long = length-replicate {A = ℕ} 4096 0; each = below-none _ }
+  pub befores-none : (m : ℕ) → n ≤ m → Befores n C w 0 (replicate m 0)
+  befores-none m h = record { long = rw (length-replicate {A = ℕ} m 0) h; each = below-none _ }
 
   -- what the walk for v starts from
-  pub chained : (v b : ℕ) (lasts before : List ℕ) → b < 8192 → b ≡ bucketOf n C w v → Lasts n C w v lasts → Befores n C w v before →
+  pub chained : (v b : ℕ) (lasts before : List ℕ) → b < buckets → b ≡ bucketOf n C w v → Lasts n C w v lasts → Befores n C w v before →
       Chains n C w v (getD lasts b 0) before
   chained v b lasts before s e l f = record { start = rw (← e) (l .each b s); befores = f }
 
   -- place v goes in front of its bucket
-  pub befores-more : (v last : ℕ) (before : List ℕ) → v < 4096 → Last n C w v (bucketOf n C w v) last → Befores n C w v before →
+  pub befores-more : (v last : ℕ) (before : List ℕ) → v < n → Last n C w v (bucketOf n C w v) last → Befores n C w v before →
       Befores n C w (v + 1) (set before v last)
   befores-more v last before s l b = record {
-    long = length-set before v last ∙ b .long;
+    long = rw (length-set before v last) (b .long);
     each = λ k h. elim (ℕ-discrete k v) [
       | yes r ↦ rw (r, getD-set-same before v last 0 (omega (arith, b .long))) l
       | no r ↦ rw (getD-set-other before v k last 0 r) (b .each k (omega (arith, r)))
     ];
   }
 
-  pub lasts-more : (v b : ℕ) (lasts : List ℕ) → b < 8192 → b ≡ bucketOf n C w v → Lasts n C w v lasts → Lasts n C w (v + 1) (set lasts b (v + 1))
+  pub lasts-more : (v b : ℕ) (lasts : List ℕ) → b < buckets → b ≡ bucketOf n C w v → Lasts n C w v lasts → Lasts n C w (v + 1) (set lasts b (v + 1))
   lasts-more v b lasts s e l = record {
     long = length-set lasts b (v + 1) ∙ l .long;
     each = λ a h. elim (ℕ-discrete a b) [

@@ -6,9 +6,13 @@ use mathlib.Core.Path.{_≡_}
 use lib.ListN.{length, getD}
 use Rattle.meaning.specs.Table.{lineOf, numberOf}
 
+-- as many as the judge has: twice as many as there can be places
+abbrev pub buckets : ℕ
+buckets = 8192
+
 -- the bucket of a place's name
 unfoldable pub bucketOf : ℕ → ℕ → List ℕ → ℕ → ℕ
-bucketOf n C w v = (numberOf n C w v + 4099 * lineOf n C w v) % 8192
+bucketOf n C w v = (numberOf n C w v + 4099 * lineOf n C w v) % buckets
 
 module _ (n C : ℕ) (w : List ℕ) where
   -- u is one more than the last place below v in bucket b, or 0: every place of the bucket is below u
@@ -19,7 +23,7 @@ module _ (n C : ℕ) (w : List ℕ) where
 
   -- `before` has the last place before each place below v, in that place's bucket
   pub record Befores (v : ℕ) (before : List ℕ) : Type 0 where
-    pub long : length before ≡ 4096
+    pub long : n ≤ length before
     pub each : (k : ℕ) → k < v → Last k (bucketOf n C w k) (getD before k 0)
 
   -- what the walk through a bucket needs
@@ -29,5 +33,5 @@ module _ (n C : ℕ) (w : List ℕ) where
 
   -- the last place of every bucket
   pub record Lasts (v : ℕ) (lasts : List ℕ) : Type 0 where
-    pub long : length lasts ≡ 8192
-    pub each : (b : ℕ) → b < 8192 → Last v b (getD lasts b 0)
+    pub long : length lasts ≡ buckets
+    pub each : (b : ℕ) → b < buckets → Last v b (getD lasts b 0)

@@ -2,15 +2,16 @@
 ghost use Prim.Native.Nat.{ℕ, _+_, _*_, _%_, _≤_, _<_};
 ghost use lib.ListN.{length};
 ghost use mathlib.Core.Path.{_≡_};
-ghost use Rattle.judge.specs.Bucket.{bucketOf, Chains, Lasts};
+ghost use Rattle.judge.specs.Bucket.{buckets, bucketOf, Chains, Lasts};
 ghost use Rattle.meaning.proofs.Judged.{Line, Differ, Fresh};
 ghost use Rattle.table.specs.Within.{Within, AtPlace};
 ghost use Rattle.terms.specs.Tells.{Tells};
 use table::section;
 use terms::run::Run;
+use terms::size::Room;
 
 // Buckets of names: twice as many as there are places at most.
-const BUCKETS: usize = 8192;
+const BUCKETS: usize = 2 * Room::PLACES_MOST;
 
 // One place, without the names of others.
 pub fn line(store: &[u32], n: usize, c: usize, v: usize) -> bool
@@ -55,7 +56,7 @@ fn differ(store: &[u32], n: usize, c: usize, v: usize, u: usize) -> bool
 // The bucket of v's name: places of one name have one bucket.
 fn bucket(store: &[u32], n: usize, c: usize, v: usize) -> usize
     requires { ⌜ AtPlace n c (now store) v ⌝ }
-    ensures { λ r. ⌜ (r ≡ bucketOf n c (now (store .entry)) v) × (r < 8192) ⌝ }
+    ensures { λ r. ⌜ (r ≡ bucketOf n c (now (store .entry)) v) × (r < buckets) ⌝ }
 {
     let a = section::line(store, n, c, v);
     let b = section::number(store, n, c, v);
@@ -64,7 +65,7 @@ fn bucket(store: &[u32], n: usize, c: usize, v: usize) -> usize
 
 // No place below v has v's name: only the places of v's bucket are compared. `last` is one more than the last of them, 0 where
 // there is none, and `before` says the same of each place for its own bucket.
-fn fresh(store: &[u32], n: usize, c: usize, v: usize, last: usize, before: &[u16; 4096]) -> bool
+fn fresh(store: &[u32], n: usize, c: usize, v: usize, last: usize, before: &[u16; Room::PLACES_MOST]) -> bool
     requires { ⌜ AtPlace n c (now store) v × Chains n c (now store) v last (now before) ⌝ }
     ensures { λ r. ⌜ Tells r (Fresh n c (now (store .entry)) v) ⌝ }
 {
@@ -83,8 +84,8 @@ pub fn names(store: &[u32], n: usize, c: usize) -> bool
     requires { ⌜ Within n c (now store) ⌝ }
     ensures { λ r. ⌜ Tells r ((v : ℕ) → v < n → Fresh n c (now (store .entry)) v) ⌝ }
 {
-    let mut lasts = [0u16; 8192];
-    let mut before = [0u16; 4096];
+    let mut lasts = [0u16; BUCKETS];
+    let mut before = [0u16; Room::PLACES_MOST];
     let mut v: usize = 0;
     while v < n {
         let b = bucket(store, n, c, v);

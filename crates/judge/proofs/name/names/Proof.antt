@@ -18,7 +18,7 @@ abbrev μ-loop : tie.MeasureT-loop
 μ-loop store n c lasts₀ before₀ v₀ lasts before v = n - v
 
 loop-holds : tie.Need-loop-holds Inv-loop μ-loop
-loop-holds c = (omega arith, lasts-none _ _ _, befores-none _ _ _, below-none _)
+loop-holds c = (omega arith, lasts-none _ _ _, befores-none _ _ _ _ (c .before .pre .room .places-most), below-none _)
 
 bucket-requires : tie.Need-bucket-requires Inv-loop μ-loop
 bucket-requires c κs = search needs
