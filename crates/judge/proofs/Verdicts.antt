@@ -6,7 +6,7 @@ use lib.Dec.{eqb}
 use lib.ListN.{length}
 use Rattle.terms.specs.Size.{InRoom, InLimit, storeWords}
 use Rattle.terms.specs.Tells.{Tells}
-use Rattle.terms.proofs.Told.{eqb-tells, tells-iff}
+use Rattle.terms.proofs.Told.{eqb-told}
 use Rattle.meaning.specs.Soundness.{Sized, Sound}
 use Rattle.judge.specs.Verdict.{Says}
 use Rattle.judge.specs.declared.Verdict.{Verdict}
@@ -15,10 +15,7 @@ use Rattle.judge.specs.declared.Verdict.the-variants as verdict
 module _ (n C D : ℕ) (w : List ℕ) where
   -- where the sizes are within their limits, the length decides
   pub length-decides : (k : ℕ) → InRoom n C → InLimit D → k ≡ storeWords n C → Tells (eqb (length w) k) (Sized n C D w)
-  length-decides k r l e = tells-iff right (λ s. s .long ∙ sym e) (eqb (length w) k) (eqb-tells (length w) k)
-    where
-      right : length w ≡ k → Sized n C D w
-      right h = record { room = r; limit = l; long = h ∙ e }
+  length-decides k r l e = eqb-told (length w) k (λ h. record { room = r; limit = l; long = h ∙ e }) (λ s. s .long ∙ sym e)
 
   pub says-once : (a b : Verdict) → Says a n C D w → Says b n C D w → a ≡ b
   says-once verdict.Sound verdict.Sound p q = refl

@@ -1,7 +1,7 @@
 // Rules 2 and 3: the lengths, and each list as a chain of its own cells that aim right.
-ghost use Prim.Native.Nat.{_≤_, _<_};
+ghost use Prim.Native.Nat.{_≤_};
 ghost use Rattle.meaning.proofs.Judged.{Lengths, Aim, CellOk, Walks};
-ghost use Rattle.table.specs.Within.{Within, AtPlace, AtList, AtCell};
+ghost use Rattle.table.specs.Within.{Within, AtList, AtCell};
 ghost use Rattle.terms.specs.Tells.{Tells};
 use table::section;
 use table::section::NONE;
@@ -22,10 +22,7 @@ pub fn lengths(store: &[u32], n: usize, c: usize, d: usize) -> bool
         v += 1;
     }
     let free = section::count(store, n, c, n);
-    if sum + free == c {
-        return true;
-    }
-    false
+    sum + free == c
 }
 
 // A cell in the list of v, by its target; n stands for the free list.
@@ -35,10 +32,7 @@ fn aim(store: &[u32], n: usize, c: usize, v: usize, i: usize) -> bool
 {
     let t = section::target(store, n, c, i);
     if v == n {
-        if t == NONE {
-            return true;
-        }
-        return false;
+        return t == NONE;
     }
     if n <= t {
         return false;
@@ -51,10 +45,7 @@ fn aim(store: &[u32], n: usize, c: usize, v: usize, i: usize) -> bool
     if a == 0 {
         return false;
     }
-    if b == 0 {
-        return false;
-    }
-    true
+    b != 0
 }
 
 // A cell in the list of v: within the table, owned by v and aiming right.
@@ -69,10 +60,7 @@ fn cell(store: &[u32], n: usize, c: usize, v: usize, i: usize) -> bool
     if o != v {
         return false;
     }
-    if !aim(store, n, c, v, i) {
-        return false;
-    }
-    true
+    aim(store, n, c, v, i)
 }
 
 // From cell i, NONE is reached after exactly k cells, each right for the list of v.
@@ -89,8 +77,5 @@ pub fn walk(store: &[u32], n: usize, c: usize, v: usize, k: usize, i: usize) -> 
         at = section::next(store, n, c, at);
         left -= 1;
     }
-    if at == NONE {
-        return true;
-    }
-    false
+    at == NONE
 }

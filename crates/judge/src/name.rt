@@ -1,8 +1,7 @@
 // Rule 1: every line word within its limit, a free place's number 0, and no two open places of one name.
-ghost use Prim.Native.Nat.{ℕ, _+_, _*_, _%_, _≤_, _<_};
-ghost use lib.ListN.{length};
+ghost use Prim.Native.Nat.{ℕ, _<_};
 ghost use mathlib.Core.Path.{_≡_};
-ghost use Rattle.judge.specs.Bucket.{buckets, bucketOf, Chains, Lasts};
+ghost use Rattle.judge.specs.Bucket.{buckets, bucketOf, Chains};
 ghost use Rattle.meaning.proofs.Judged.{Line, Differ, Fresh};
 ghost use Rattle.table.specs.Within.{Within, AtPlace};
 ghost use Rattle.terms.specs.Tells.{Tells};
@@ -24,10 +23,7 @@ pub fn line(store: &[u32], n: usize, c: usize, v: usize) -> bool
         return false;
     }
     if name == 0 {
-        if trip == 0 {
-            return true;
-        }
-        return false;
+        return trip == 0;
     }
     true
 }
@@ -47,10 +43,7 @@ fn differ(store: &[u32], n: usize, c: usize, v: usize, u: usize) -> bool
     }
     let x = section::number(store, n, c, u);
     let y = section::number(store, n, c, v);
-    if x == y {
-        return false;
-    }
-    true
+    x != y
 }
 
 // The bucket of v's name: places of one name have one bucket.
@@ -65,7 +58,14 @@ fn bucket(store: &[u32], n: usize, c: usize, v: usize) -> usize
 
 // No place below v has v's name: only the places of v's bucket are compared. `last` is one more than the last of them, 0 where
 // there is none, and `before` says the same of each place for its own bucket.
-fn fresh(store: &[u32], n: usize, c: usize, v: usize, last: usize, before: &[u16; Room::PLACES_MOST]) -> bool
+fn fresh(
+    store: &[u32],
+    n: usize,
+    c: usize,
+    v: usize,
+    last: usize,
+    before: &[u16; Room::PLACES_MOST],
+) -> bool
     requires { ⌜ AtPlace n c (now store) v × Chains n c (now store) v last (now before) ⌝ }
     ensures { λ r. ⌜ Tells r (Fresh n c (now (store .entry)) v) ⌝ }
 {

@@ -1,6 +1,5 @@
 // Rule 4: no unordered pair stands in two cells. A cell is held against the cells after it in its own list and against its
 // target's list.
-ghost use Prim.Native.Nat.{_≤_, _<_};
 ghost use Rattle.meaning.proofs.Judged.{CellOk, Walks, Has, Lone, Alone};
 ghost use Rattle.table.specs.Within.{Within, AtPlace};
 ghost use Rattle.terms.specs.Tells.{Tells};
@@ -39,10 +38,7 @@ fn lone(store: &[u32], n: usize, c: usize, v: usize, k: usize, i: usize) -> bool
     }
     let start = section::head(store, n, c, t);
     let many = section::count(store, n, c, t);
-    if has(store, n, c, v, many, start) {
-        return false;
-    }
-    true
+    !has(store, n, c, v, many, start)
 }
 
 // So for each of the k cells from i on.

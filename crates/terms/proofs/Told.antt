@@ -24,15 +24,18 @@ pub tells-iff : {P Q : Type 0} → (P → Q) → (Q → P) → (b : Bool) → Te
 tells-iff f g true t = f t
 tells-iff f g false t = λ q. t (g q)
 
--- a comparison for equality is a test of it
-pub eqb-tells : (a b : ℕ) → Tells (eqb a b) (a ≡ b)
-eqb-tells a b = go (eqb a b) refl
-  where
-    go : (t : Bool) → eqb a b ≡ t → Tells t (a ≡ b)
-    go true e = eqb-true a b e
-    go false e = eqb-false a b e
+-- the opposite answer is a test of any statement that says the opposite
+pub not-told : {P Q : Type 0} → ((P → ⊥) → Q) → (Q → P → ⊥) → (b : Bool) → Tells b P → Tells (not b) Q
+not-told f g true t = λ q. g q t
+not-told f g false t = f t
 
--- the opposite answer is a test that the statement does not hold
-pub not-tells : (P : Type 0) (b : Bool) → Tells b P → Tells (not b) (P → ⊥)
-not-tells P true t = λ h. h t
-not-tells P false t = t
+-- a comparison is a test of any statement that says the two are equal, or that they are not
+pub eqb-told : {Q : Type 0} (a b : ℕ) → (a ≡ b → Q) → (Q → a ≡ b) → Tells (eqb a b) Q
+eqb-told {Q} a b f g = go (eqb a b) refl
+  where
+    go : (t : Bool) → eqb a b ≡ t → Tells t Q
+    go true e = f (eqb-true a b e)
+    go false e = λ q. eqb-false a b e (g q)
+
+pub neb-told : {Q : Type 0} (a b : ℕ) → ((a ≡ b → ⊥) → Q) → (Q → a ≡ b → ⊥) → Tells (not (eqb a b)) Q
+neb-told a b f g = not-told f g (eqb a b) (eqb-told a b (λ e. e) (λ e. e))

@@ -1,7 +1,6 @@
 -- `judge::judge` meets its contract: the judge's test is a test of soundness (Rules). Assumes nothing.
 use Rattle.terms.proofs.Told.{passed, failed}
 use Rattle.meaning.proofs.Rules.{judged-sound, sound-judged}
-use native.Mathlib.Omega.{arith}
 use borrow.Author.Needs.{needs}
 use Rattle.judge.proofs.judge.Statement.{statement}
 use Rattle.judge.proofs.judge.Tie as tie

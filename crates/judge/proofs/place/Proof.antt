@@ -1,6 +1,5 @@
 -- `judge::place` meets its contract, test by test. Assumes nothing.
 use Rattle.terms.proofs.Told.{passed, failed, tells-iff}
-use native.Mathlib.Omega.{arith}
 use borrow.Author.Needs.{needs}
 use Rattle.judge.proofs.place.Statement.{statement}
 use Rattle.judge.proofs.place.Tie as tie

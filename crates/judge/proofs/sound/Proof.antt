@@ -1,6 +1,5 @@
 -- `judge::sound` meets its contract: the tests together are the judge's whole test. Assumes nothing.
 use Rattle.terms.proofs.Told.{passed, failed, tells-iff}
-use native.Mathlib.Omega.{arith}
 use borrow.Author.Needs.{needs}
 use Rattle.judge.proofs.sound.Statement.{statement}
 use Rattle.judge.proofs.sound.Tie as tie

@@ -1,5 +1,5 @@
 -- `judge::chain::cell` meets its contract, test by test. Assumes nothing.
-use Rattle.terms.proofs.Told.{passed, failed}
+use Rattle.terms.proofs.Told.{tells-iff}
 use native.Mathlib.Omega.{arith}
 use borrow.Author.Needs.{needs}
 use Rattle.judge.proofs.chain.cell.Statement.{statement}
@@ -18,10 +18,7 @@ aim-requires : tie.Need-aim-requires
 aim-requires c κs = search needs
 
 returns-3 : tie.Need-returns-3
-returns-3 c = λ h. failed (c .before .aim .result) (c .if3 .taken) (c .before .aim .ensures) (h .aims)
-
-returns-4 : tie.Need-returns-4
-returns-4 c = record { within = omega arith; owned = omega arith; aims = passed (c .before .aim .result) (c .if3 .left) (c .before .aim .ensures) }
+returns-3 c = tells-iff (λ p. record { within = omega arith; owned = omega arith; aims = p }) (λ h. h .aims) (c .aim .result) (c .aim .ensures)
 
 pub cell-spec : {M : Type 1} → statement M
-cell-spec = tie.close (tie.spec returns owner-requires returns-2 aim-requires returns-3 returns-4)
+cell-spec = tie.close (tie.spec returns owner-requires returns-2 aim-requires returns-3)

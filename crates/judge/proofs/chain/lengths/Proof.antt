@@ -1,8 +1,9 @@
 -- `judge::chain::lengths` meets its contract. The loop's invariant: the sum is that of the lengths below v, each of which is at
--- most d. Assumes nothing.
-use Prim.Native.Nat.{ℕ, _*_, _-_, _≤_, _<_}
+-- most d; each is a word, so that the sum fits. Assumes nothing.
+use Prim.Native.Nat.{ℕ, _+_, _*_, _-_, _≤_, _<_}
 use mathlib.Core.Path.{_≡_, sym, _∙_}
 use borrow.Author.Count.{below-none, below-more}
+use Rattle.terms.proofs.Told.{eqb-told}
 use Rattle.meaning.specs.Table.{lengthOf}
 use Rattle.meaning.specs.Soundness as meant
 use Rattle.meaning.proofs.Judged.{lengths-none, lengths-more, lengths-end}
@@ -24,7 +25,7 @@ count-requires : tie.Need-count-requires Inv-loop μ-loop
 count-requires c κs = search needs
 
 returns : tie.Need-returns Inv-loop μ-loop
-returns c = λ h. let z = h .short (c .before .before .before .loop .v) (omega arith) in omega arith
+returns c = λ h. omega (arith, h .short (c .before .before .before .loop .v) (omega arith))
 
 add-sum : tie.Need-add-sum Inv-loop μ-loop
 add-sum c = search needs
@@ -41,14 +42,15 @@ loop-again c = (omega arith, simp lengths-more (omega arith), omega arith, below
 count-requires-2 : tie.Need-count-requires-2 Inv-loop μ-loop
 count-requires-2 c κs = search needs
 
-add-if2 : tie.Need-add-if2 Inv-loop μ-loop
-add-if2 c = search needs
+add-result : tie.Need-add-result Inv-loop μ-loop
+add-result c = search needs
 
 returns-2 : tie.Need-returns-2 Inv-loop μ-loop
-returns-2 c = record { whole = lengths-end _ _ _ _ _ _ (c .before .before .before .loop .inv .1) (omega arith) (c .before .count2 .ensures .0) ∙ c .if2 .taken; short = λ v h. c .before .before .before .loop .inv .3 v (omega arith) }
-
-returns-3 : tie.Need-returns-3 Inv-loop μ-loop
-returns-3 c = λ h. c .if2 .left (sym (lengths-end _ _ _ _ _ _ (c .before .before .before .loop .inv .1) (omega arith) (c .before .count2 .ensures .0)) ∙ h .whole)
+returns-2 c =
+    let inv = c .before .before .loop .inv in
+    let all = lengths-end _ _ _ _ _ _ (inv .1) (omega arith) (c .count2 .ensures .0) in
+    eqb-told (c .before .before .loop .sum + c .count2 .result) (c .before .before .before .before .args .c) (λ e. record { whole = all ∙ e; short = λ v h. inv .3 v (omega arith) })
+    (λ h. sym all ∙ h .whole)
 
 pub lengths-spec : {M : Type 1} → statement M
 lengths-spec =
@@ -64,6 +66,5 @@ lengths-spec =
     loop-less
     loop-again
     count-requires-2
-    add-if2
-    returns-2
-    returns-3)
+    add-result
+    returns-2)

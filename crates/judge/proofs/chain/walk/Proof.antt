@@ -1,6 +1,6 @@
 -- `judge::chain::walk` meets its contract. The loop's invariant: what is left of the walk says what the whole one says. The measure
 -- is what is left of the length, so that it ends on every table. Assumes nothing.
-use Rattle.terms.proofs.Told.{passed, failed}
+use Rattle.terms.proofs.Told.{passed, failed, eqb-told}
 use Rattle.meaning.proofs.Judged.{Walks, walks-out, walks-in, walks-end}
 use borrow.Author.Needs.{needs}
 use native.Mathlib.Omega.{arith}
@@ -35,13 +35,16 @@ loop-again : tie.Need-loop-again Inv-loop μ-loop
 loop-again c =
     let inv = c .before .before .before .before .loop .inv in
     let more = c .before .before .before .loop-test .taken in
-    rw (c .next .ensures .0) (λ p. inv .0 (walks-in _ _ _ _ _ _ more (passed (c .before .before .cell .result) (c .before .if1 .left) (c .before .before .cell .ensures)) p), λ p. walks-out _ _ _ _ _ _ more (inv .1 p) .1)
+    rw (c .next .ensures .0) (
+      λ p. inv .0 (walks-in _ _ _ _ _ _ more (passed (c .before .before .cell .result) (c .before .if1 .left) (c .before .before .cell .ensures)) p),
+      λ p. walks-out _ _ _ _ _ _ more (inv .1 p) .1,
+    )
 
 returns-2 : tie.Need-returns-2 Inv-loop μ-loop
-returns-2 c = c .before .before .loop .inv .0 (walks-end _ _ _ _ _ _ (omega arith) .1 (c .if2 .taken))
-
-returns-3 : tie.Need-returns-3 Inv-loop μ-loop
-returns-3 c = λ h. c .if2 .left (walks-end _ _ _ _ _ _ (omega arith) .0 (c .before .before .loop .inv .1 h))
+returns-2 c =
+    let inv = c .before .loop .inv in
+    eqb-told (c .before .loop .at) 4294967295 (λ e. inv .0 (walks-end _ _ _ _ _ _ (omega arith) .1 e))
+    (λ h. walks-end _ _ _ _ _ _ (omega arith) .0 (inv .1 h))
 
 pub walk-spec : {M : Type 1} → statement M
 walk-spec =
@@ -56,5 +59,4 @@ walk-spec =
     sub-left
     loop-less
     loop-again
-    returns-2
-    returns-3)
+    returns-2)

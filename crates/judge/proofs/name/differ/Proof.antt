@@ -1,4 +1,5 @@
 -- `judge::name::differ` meets its contract, test by test. Assumes nothing.
+use Rattle.terms.proofs.Told.{neb-told}
 use native.Mathlib.Omega.{arith}
 use borrow.Author.Needs.{needs}
 use Rattle.judge.proofs.name.differ.Statement.{statement}
@@ -23,10 +24,7 @@ number-requires-2 : tie.Need-number-requires-2
 number-requires-2 c κs = search needs
 
 returns-3 : tie.Need-returns-3
-returns-3 c = λ h. h (λ e. c .before .before .before .before .if1 .left (omega arith)) (omega arith) (omega arith)
-
-returns-4 : tie.Need-returns-4
-returns-4 c = search needs
+returns-3 c = neb-told (c .before .number .result) (c .number2 .result) (λ e o p q. e (omega arith)) (λ h e. h (λ z. c .before .before .before .if1 .left (omega arith)) (omega arith) (omega arith))
 
 pub differ-spec : {M : Type 1} → statement M
 differ-spec =
@@ -38,5 +36,4 @@ differ-spec =
     returns-2
     number-requires
     number-requires-2
-    returns-3
-    returns-4)
+    returns-3)

@@ -1,4 +1,5 @@
 -- `judge::name::line` meets its contract, test by test. Assumes nothing.
+use Rattle.terms.proofs.Told.{eqb-told}
 use native.Mathlib.Omega.{arith}
 use borrow.Author.Needs.{needs}
 use Rattle.judge.proofs.name.line.Statement.{statement}
@@ -17,15 +18,10 @@ returns : tie.Need-returns
 returns c = search needs
 
 returns-2 : tie.Need-returns-2
-returns-2 c = search needs
+returns-2 c = eqb-told (c .before .before .number .result) 0 (λ e. record { small = omega arith; freed = λ h. omega arith }) (λ h. omega (arith, h .freed (omega arith)))
 
 returns-3 : tie.Need-returns-3
-returns-3 c = λ h. c .if3 .left (omega (arith, h .freed (omega arith)))
-
-returns-4 : tie.Need-returns-4
-returns-4 c = search needs
+returns-3 c = search needs
 
 pub line-spec : {M : Type 1} → statement M
-line-spec =
-    tie.close
-    (tie.spec line-requires number-requires cast-if1 returns returns-2 returns-3 returns-4)
+line-spec = tie.close (tie.spec line-requires number-requires cast-if1 returns returns-2 returns-3)

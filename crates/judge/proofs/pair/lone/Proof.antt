@@ -1,5 +1,5 @@
 -- `judge::pair::lone` meets its contract: both lists that can have the pair are looked through. Assumes nothing.
-use Rattle.terms.proofs.Told.{yes-told, no-told}
+use Rattle.terms.proofs.Told.{yes-told, no-told, not-told}
 use native.Mathlib.Omega.{arith}
 use borrow.Author.Needs.{needs}
 use Rattle.judge.proofs.pair.lone.Statement.{statement}
@@ -27,15 +27,16 @@ has-requires-2 : tie.Need-has-requires-2
 has-requires-2 c κs = search needs
 
 returns-2 : tie.Need-returns-2
-returns-2 c = λ h. h .back (rw (c .before .before .before .head .ensures .0, c .before .before .count .ensures .0, c .before .before .before .before .before .before .before .target .ensures .0) at (yes-told (c .before .has2 .result) (c .if2 .taken) (c .before .has2 .ensures)))
-
-returns-3 : tie.Need-returns-3
-returns-3 c =
-    record {
-      later = rw (c .before .before .before .before .before .before .before .target .ensures .0, c .before .before .before .before .before .before .next .ensures .0) at (no-told (c .before .before .before .before .before .has .result) (c .before .before .before .before .if1 .left) (c .before .before .before .before .before .has .ensures));
-      back = rw (c .before .before .before .head .ensures .0, c .before .before .count .ensures .0, c .before .before .before .before .before .before .before .target .ensures .0) at
-          (no-told (c .before .has2 .result) (c .if2 .left) (c .before .has2 .ensures));
-    }
+returns-2 c =
+    let t = c .before .before .before .before .before .before .target .ensures .0 in
+    let start = c .before .before .head .ensures .0 in
+    let many = c .before .count .ensures .0 in
+    not-told
+    (λ p. record {
+      later = rw (t, c .before .before .before .before .before .next .ensures .0) at (no-told (c .before .before .before .before .has .result) (c .before .before .before .if1 .left) (c .before .before .before .before .has .ensures));
+      back = rw (start, many, t) at p;
+    })
+    (λ h p. h .back (rw (start, many, t) at p)) (c .has2 .result) (c .has2 .ensures)
 
 pub lone-spec : {M : Type 1} → statement M
 lone-spec =
@@ -48,5 +49,4 @@ lone-spec =
     head-requires
     count-requires
     has-requires-2
-    returns-2
-    returns-3)
+    returns-2)
