@@ -1,4 +1,5 @@
 -- `judge::chain::aim` meets its contract, by cases of the list and of the target. Assumes nothing.
+use Rattle.meaning.specs.Table.{NONE}
 use Rattle.terms.proofs.Told.{eqb-told, neb-told}
 use native.Mathlib.Omega.{arith}
 use borrow.Author.Needs.{needs}
@@ -9,7 +10,7 @@ target-requires : tie.Need-target-requires
 target-requires c κs = search needs
 
 returns : tie.Need-returns
-returns c = eqb-told (c .before .target .result) 4294967295 (λ e. (λ h. absurd (omega arith), λ h. omega arith)) (λ h. omega (arith, h .1 (omega arith)))
+returns c = eqb-told (c .before .target .result) NONE (λ e. (λ h. absurd (omega arith), λ h. omega arith)) (λ h. omega (arith, h .1 (omega arith)))
 
 returns-2 : tie.Need-returns-2
 returns-2 c = λ h. omega (arith, h .0 (omega arith) .place)
