@@ -71,8 +71,11 @@ module _ (n C : ℕ) (w : List ℕ) where
   pub lasts-none : Lasts n C w 0 (replicate buckets 0)
   lasts-none = record {
     long = length-replicate {A = ℕ} buckets 0;
-    each = λ b h. rw (getD-replicate {A = ℕ} buckets b 0 0 h) (record { most = omega arith; mine = λ p. absurd (omega arith); above = λ j p e. absurd (omega arith) });
+    each = λ b h. rw (getD-replicate {A = ℕ} buckets b 0 0 h) empty;
   }
+    where
+      empty : {b : ℕ} → Last n C w 0 b 0
+      empty = record { most = omega arith; mine = λ p. absurd (omega arith); above = λ j p e. absurd (omega arith) }
 
   pub befores-none : (m : ℕ) → n ≤ m → Befores n C w 0 (replicate m 0)
   befores-none m h = record { long = rw (length-replicate {A = ℕ} m 0) h; each = below-none _ }

@@ -30,7 +30,8 @@ loop-less : tie.Need-loop-less Inv-loop μ-loop
 loop-less c = search needs
 
 loop-again : tie.Need-loop-again Inv-loop μ-loop
-loop-again c = (omega arith, below-more _ _ (c .before .before .before .loop .inv .1) (passed (c .before .place .result) (c .if1 .left) (c .before .place .ensures)))
+loop-again c =
+    (omega arith, below-more _ _ (c .before .before .before .loop .inv .1) (passed (c .before .place .result) (c .if1 .left) (c .before .place .ensures)))
 
 returns-2 : tie.Need-returns-2 Inv-loop μ-loop
 returns-2 c = λ k h. c .before .loop .inv .1 k (omega arith)

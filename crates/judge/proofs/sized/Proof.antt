@@ -35,10 +35,13 @@ returns-2 c = λ h. room-outside (c .before .before .of2 .result) _ _ (c .enum-t
 
 returns-3 : tie.Need-returns-3
 returns-3 c =
-    let room = room-within (c .before .before .before .before .of2 .result) _ _ _ (c .before .before .room .given .1) (c .before .before .before .before .of2 .ensures) in
-    let limit = limit-within (c .before .before .before .before .before .before .before .of .result) _ _ (c .before .before .before .before .before .enum-told2 .given .1) (c .before .before .before .before .before .before .before .of .ensures) in
-    let a = c .before .before .before .before .before .before .before .before .before .args in
-    length-decides (a .n) (a .c) (a .d) (a .store .now) (c .store-words .result) (room .2) (limit .1) (omega (arith, room .0, room .1, c .store-words .ensures))
+    let roomed = c .before .before .before .before in
+    let limited = c .before .before .before .before .before .before .before in
+    let room = room-within (roomed .of2 .result) _ _ _ (c .before .before .room .given .1) (roomed .of2 .ensures) in
+    let limit = limit-within (limited .of .result) _ _ (c .before .before .before .before .before .enum-told2 .given .1) (limited .of .ensures) in
+    let a = limited .before .before .args in
+    length-decides (a .n) (a .c) (a .d) (a .store .now) (c .store-words .result) (room .2) (limit .1)
+    (omega (arith, room .0, room .1, c .store-words .ensures))
 
 pub sized-spec : {M : Type 1} → statement M
 sized-spec =

@@ -20,7 +20,9 @@ walk-requires : tie.Need-walk-requires
 walk-requires c κs = search needs
 
 returns-2 : tie.Need-returns-2
-returns-2 c = λ h. failed (c .before .walk .result) (c .if2 .taken) (c .before .walk .ensures) (rw (c .before .before .before .head .ensures .0, c .before .before .count .ensures .0) (h .free))
+returns-2 c =
+    λ h. failed (c .before .walk .result) (c .if2 .taken) (c .before .walk .ensures)
+    (rw (c .before .before .before .head .ensures .0, c .before .before .count .ensures .0) (h .free))
 
 names-requires : tie.Need-names-requires
 names-requires c κs = search needs
@@ -33,11 +35,15 @@ places-requires c κs = search needs
 
 returns-4 : tie.Need-returns-4
 returns-4 c =
-    let fresh = passed (c .before .before .names .result) (c .before .if3 .left) (c .before .before .names .ensures) in
+    let named = c .before .before in
+    let walked = named .before .before in
+    let headed = walked .before .before in
+    let added = headed .before .before in
+    let fresh = passed (named .names .result) (c .before .if3 .left) (named .names .ensures) in
     tells-iff
     (λ p. record {
-      lengths = passed (c .before .before .before .before .before .before .before .before .lengths .result) (c .before .before .before .before .before .before .before .if1 .left) (c .before .before .before .before .before .before .before .before .lengths .ensures);
-      free = rw (c .before .before .before .before .before .before .head .ensures .0, c .before .before .before .before .before .count .ensures .0) at (passed (c .before .before .before .before .walk .result) (c .before .before .before .if2 .left) (c .before .before .before .before .walk .ensures));
+      lengths = passed (added .lengths .result) (headed .before .if1 .left) (added .lengths .ensures);
+      free = rw (headed .head .ensures .0, walked .before .count .ensures .0) at (passed (walked .walk .result) (named .before .if2 .left) (walked .walk .ensures));
       places = λ v q. record { line = p v q .line; fresh = fresh v q; walks = p v q .walks; alone = p v q .alone };
     })
     (λ h v q. record { line = h .places v q .line; walks = h .places v q .walks; alone = h .places v q .alone }) (c .places .result) (c .places .ensures)

@@ -13,7 +13,8 @@ use Rattle.judge.proofs.chain.lengths.Statement.{statement}
 use Rattle.judge.proofs.chain.lengths.Tie as tie
 
 abbrev Inv-loop : tie.InvT-loop
-Inv-loop store n c d sum₀ v₀ sum v = (v ≤ n) × (sum ≡ meant.lengths n c store v) × (sum ≤ 4294967296 * v) × ((u : ℕ) → u < v → lengthOf n c store u ≤ d)
+Inv-loop store n c d sum₀ v₀ sum v =
+    (v ≤ n) × (sum ≡ meant.lengths n c store v) × (sum ≤ 4294967296 * v) × ((u : ℕ) → u < v → lengthOf n c store u ≤ d)
 
 abbrev μ-loop : tie.MeasureT-loop
 μ-loop store n c d sum₀ v₀ sum v = n - v
@@ -47,9 +48,9 @@ add-result c = search needs
 
 returns-2 : tie.Need-returns-2 Inv-loop μ-loop
 returns-2 c =
-    let inv = c .before .before .loop .inv in
-    let all = lengths-end _ _ _ _ _ _ (inv .1) (omega arith) (c .count2 .ensures .0) in
-    eqb-told (c .before .before .loop .sum + c .count2 .result) (c .before .before .before .before .args .c) (λ e. record { whole = all ∙ e; short = λ v h. inv .3 v (omega arith) })
+    let at = c .before .before .loop in
+    let all = lengths-end _ _ _ _ _ _ (at .inv .1) (omega arith) (c .count2 .ensures .0) in
+    eqb-told (at .sum + c .count2 .result) (c .before .before .before .before .args .c) (λ e. record { whole = all ∙ e; short = λ v h. at .inv .3 v (omega arith) })
     (λ h. sym all ∙ h .whole)
 
 pub lengths-spec : {M : Type 1} → statement M

@@ -21,7 +21,9 @@ cell-requires : tie.Need-cell-requires Inv-loop μ-loop
 cell-requires c κs = search needs
 
 returns : tie.Need-returns Inv-loop μ-loop
-returns c = λ h. failed (c .before .cell .result) (c .if1 .taken) (c .before .cell .ensures) (walks-out _ _ _ _ (c .before .before .before .loop .left) _ (omega arith) (c .before .before .before .loop .inv .1 h) .0)
+returns c =
+    let at = c .before .before .before .loop in
+    λ h. failed (c .before .cell .result) (c .if1 .taken) (c .before .cell .ensures) (walks-out _ _ _ _ (at .left) _ (omega arith) (at .inv .1 h) .0)
 
 next-requires : tie.Need-next-requires Inv-loop μ-loop
 next-requires c κs = record { within = search needs; cell = passed (c .before .cell .result) (c .if1 .left) (c .before .cell .ensures) .within }

@@ -24,7 +24,9 @@ number-requires-2 : tie.Need-number-requires-2
 number-requires-2 c κs = search needs
 
 returns-3 : tie.Need-returns-3
-returns-3 c = neb-told (c .before .number .result) (c .number2 .result) (λ e o p q. e (omega arith)) (λ h e. h (λ z. c .before .before .before .if1 .left (omega arith)) (omega arith) (omega arith))
+returns-3 c =
+    neb-told (c .before .number .result) (c .number2 .result) (λ e o p q. e (omega arith))
+    (λ h e. h (λ z. c .before .before .before .if1 .left (omega arith)) (omega arith) (omega arith))
 
 pub differ-spec : {M : Type 1} → statement M
 differ-spec =

@@ -36,14 +36,20 @@ element-copy-out-u c = search needs
 
 cast-u : tie.Need-cast-u Inv-loop μ-loop
 cast-u c =
-    let falls = walk-falls _ _ _ _ _ _ (c .before .before .before .loop-test .taken) (c .before .before .before .before .before .before .pre .1 .befores) (c .before .before .before .before .loop .inv) in
-    omega (arith, c .before .before .before .before .loop .inv, c .before .before .before .before .before .before .pre)
+    let at = c .before .before .before .before in
+    let falls = walk-falls _ _ _ _ _ _ (c .before .before .before .loop-test .taken) (at .before .before .pre .1 .befores) (at .loop .inv) in
+    omega (arith, at .loop .inv, at .before .before .pre)
 
 loop-less : tie.Need-loop-less Inv-loop μ-loop
-loop-less c = walk-falls _ _ _ _ _ _ (c .before .before .before .loop-test .taken) (c .before .before .before .before .before .before .pre .1 .befores) (c .before .before .before .before .loop .inv)
+loop-less c =
+    let at = c .before .before .before .before in
+    walk-falls _ _ _ _ _ _ (c .before .before .before .loop-test .taken) (at .before .before .pre .1 .befores) (at .loop .inv)
 
 loop-again : tie.Need-loop-again Inv-loop μ-loop
-loop-again c = walk-goes _ _ _ _ _ _ (c .before .before .before .loop-test .taken) (c .before .before .before .before .before .before .pre .1 .befores) (c .before .before .before .before .loop .inv) (passed (c .before .before .differ .result) (c .before .if1 .left) (c .before .before .differ .ensures))
+loop-again c =
+    let at = c .before .before .before .before in
+    walk-goes _ _ _ _ _ _ (c .before .before .before .loop-test .taken) (at .before .before .pre .1 .befores) (at .loop .inv)
+    (passed (c .before .before .differ .result) (c .before .if1 .left) (c .before .before .differ .ensures))
 
 returns-2 : tie.Need-returns-2 Inv-loop μ-loop
 returns-2 c = walk-ends _ _ _ _ _ (c .loop-test .left) (c .before .loop .inv)

@@ -18,7 +18,9 @@ returns : tie.Need-returns
 returns c = search needs
 
 returns-2 : tie.Need-returns-2
-returns-2 c = eqb-told (c .before .before .number .result) 0 (λ e. record { small = omega arith; freed = λ h. omega arith }) (λ h. omega (arith, h .freed (omega arith)))
+returns-2 c =
+    eqb-told (c .before .before .number .result) 0 (λ e. record { small = omega arith; freed = λ h. omega arith })
+    (λ h. omega (arith, h .freed (omega arith)))
 
 returns-3 : tie.Need-returns-3
 returns-3 c = search needs

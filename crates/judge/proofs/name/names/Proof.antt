@@ -33,7 +33,10 @@ cast-fresh : tie.Need-cast-fresh Inv-loop μ-loop
 cast-fresh c = omega (arith, c .before .before .loop .inv .1 .each (c .bucket .result) (c .bucket .ensures .1) .most)
 
 fresh-requires : tie.Need-fresh-requires Inv-loop μ-loop
-fresh-requires c κs = (search needs, chained _ _ _ _ _ _ _ (c .before .bucket .ensures .1) (c .before .bucket .ensures .0) (c .before .before .before .loop .inv .1) (c .before .before .before .loop .inv .2))
+fresh-requires c κs =
+    let inv = c .before .before .before .loop .inv in
+    let b = c .before .bucket .ensures in
+    (search needs, chained _ _ _ _ _ _ _ (b .1) (b .0) (inv .1) (inv .2))
 
 returns : tie.Need-returns Inv-loop μ-loop
 returns c = λ h. failed (c .before .fresh .result) (c .if1 .taken) (c .before .fresh .ensures) (h _ (omega arith))

@@ -8,7 +8,8 @@ use Rattle.judge.proofs.pair.alone.Statement.{statement}
 use Rattle.judge.proofs.pair.alone.Tie as tie
 
 abbrev Inv-loop : tie.InvT-loop
-Inv-loop store n c v k i left₀ at₀ left at = Walks n c store v left at × (Alone n c store v left at → Alone n c store v k i) × (Alone n c store v k i → Alone n c store v left at)
+Inv-loop store n c v k i left₀ at₀ left at =
+    Walks n c store v left at × (Alone n c store v left at → Alone n c store v k i) × (Alone n c store v k i → Alone n c store v left at)
 
 abbrev μ-loop : tie.MeasureT-loop
 μ-loop store n c v k i left₀ at₀ left at = left
@@ -23,10 +24,16 @@ lone-requires : tie.Need-lone-requires Inv-loop μ-loop
 lone-requires c κs = (search needs, walks-out _ _ _ _ _ _ (c .loop-test .taken) (c .before .loop .inv .0) .0)
 
 returns : tie.Need-returns Inv-loop μ-loop
-returns c = λ h. failed (c .before .lone .result) (c .if1 .taken) (c .before .lone .ensures) (alone-out _ _ _ _ _ _ (c .before .before .loop-test .taken) (c .before .before .before .loop .inv .2 h) .0)
+returns c =
+    λ h. failed (c .before .lone .result) (c .if1 .taken) (c .before .lone .ensures)
+    (alone-out _ _ _ _ _ _ (c .before .before .loop-test .taken) (c .before .before .before .loop .inv .2 h) .0)
 
 next-requires : tie.Need-next-requires Inv-loop μ-loop
-next-requires c κs = record { within = search needs; cell = walks-out _ _ _ _ _ _ (c .before .before .loop-test .taken) (c .before .before .before .loop .inv .0) .0 .within }
+next-requires c κs =
+    record {
+      within = search needs;
+      cell = walks-out _ _ _ _ _ _ (c .before .before .loop-test .taken) (c .before .before .before .loop .inv .0) .0 .within;
+    }
 
 sub-left : tie.Need-sub-left Inv-loop μ-loop
 sub-left c = search needs

@@ -24,7 +24,8 @@ target-requires : tie.Need-target-requires Inv-loop μ-loop
 target-requires c κs = search needs
 
 returns-2 : tie.Need-returns-2 Inv-loop μ-loop
-returns-2 c = c .before .before .before .before .loop .inv .0 (has-in _ _ _ _ _ _ (c .before .before .before .loop-test .taken) (omega arith, inl (omega arith)))
+returns-2 c =
+    c .before .before .before .before .loop .inv .0 (has-in _ _ _ _ _ _ (c .before .before .before .loop-test .taken) (omega arith, inl (omega arith)))
 
 next-requires : tie.Need-next-requires Inv-loop μ-loop
 next-requires c κs = search needs

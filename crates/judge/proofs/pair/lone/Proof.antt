@@ -15,25 +15,32 @@ has-requires : tie.Need-has-requires
 has-requires c κs = search needs
 
 returns : tie.Need-returns
-returns c = λ h. h .later (rw (c .before .before .before .target .ensures .0, c .before .before .next .ensures .0) at (yes-told (c .before .has .result) (c .if1 .taken) (c .before .has .ensures)))
+returns c =
+    λ h. h .later (rw (c .before .before .before .target .ensures .0, c .before .before .next .ensures .0) at
+    (yes-told (c .before .has .result) (c .if1 .taken) (c .before .has .ensures)))
 
 head-requires : tie.Need-head-requires
-head-requires c κs = record { within = search needs; list = omega (arith, c .before .before .before .before .before .pre .1 .aims .0 (c .before .before .before .before .before .pre .0 .place) .place) }
+head-requires c κs =
+    let pre = c .before .before .before .before .before .pre in
+    record { within = search needs; list = omega (arith, pre .1 .aims .0 (pre .0 .place) .place) }
 
 count-requires : tie.Need-count-requires
-count-requires c κs = record { within = search needs; list = omega (arith, c .before .before .before .before .before .before .pre .1 .aims .0 (c .before .before .before .before .before .before .pre .0 .place) .place) }
+count-requires c κs =
+    let pre = c .before .before .before .before .before .before .pre in
+    record { within = search needs; list = omega (arith, pre .1 .aims .0 (pre .0 .place) .place) }
 
 has-requires-2 : tie.Need-has-requires-2
 has-requires-2 c κs = search needs
 
 returns-2 : tie.Need-returns-2
 returns-2 c =
-    let t = c .before .before .before .before .before .before .target .ensures .0 in
+    let looked = c .before .before .before .before in
+    let t = looked .before .before .target .ensures .0 in
     let start = c .before .before .head .ensures .0 in
     let many = c .before .count .ensures .0 in
     not-told
     (λ p. record {
-      later = rw (t, c .before .before .before .before .before .next .ensures .0) at (no-told (c .before .before .before .before .has .result) (c .before .before .before .if1 .left) (c .before .before .before .before .has .ensures));
+      later = rw (t, looked .before .next .ensures .0) at (no-told (looked .has .result) (c .before .before .before .if1 .left) (looked .has .ensures));
       back = rw (start, many, t) at p;
     })
     (λ h p. h .back (rw (start, many, t) at p)) (c .has2 .result) (c .has2 .ensures)
