@@ -5,12 +5,12 @@ use mathlib.Core.List.{List}
 use mathlib.Core.Path.{_≡_, sym, ap, _∙_}
 use native.Mathlib.Decide.{ℕ-discrete, decLt}
 use native.Mathlib.Omega.{arith}
-use lib.ListN.{getD, set, replicate, length-set, length-replicate, getD-replicate}
+use lib.ListN.{length, getD, set, replicate, length-set, length-replicate, getD-replicate}
 use lib.Seq.{getD-set-same, getD-set-other}
 use borrow.Author.Count.{below-none}
 use Rattle.meaning.specs.Table.{lineOf, numberOf}
 use Rattle.meaning.proofs.Judged.{Differ, Fresh}
-use Rattle.judge.specs.Bucket.{buckets, bucketOf, Last, Befores, Chains, Lasts}
+use Rattle.judge.specs.Bucket.{buckets, bucketOf, Last, Befores, Chains}
 
 less-one : (v : ℕ) → v + 1 - 1 ≡ v
 less-one v = omega arith
@@ -67,8 +67,13 @@ module _ (n C : ℕ) (w : List ℕ) where
   pub walk-ends : (v u : ℕ) → u ≤ 0 → Walked v u → Fresh n C w v
   walk-ends v u z g j h o p q = g .seen j h (omega arith) (one-bucket j v p q) o p q
 
+  -- the last place of every bucket
+  pub record Lasts (v : ℕ) (lasts : List ℕ) : Type 0 where
+    pub long : length lasts ≡ buckets
+    pub each : (b : ℕ) → b < buckets → Last n C w v b (getD lasts b 0)
+
   -- no place yet: every bucket is empty
-  pub lasts-none : Lasts n C w 0 (replicate buckets 0)
+  pub lasts-none : Lasts 0 (replicate buckets 0)
   lasts-none = record {
     long = length-replicate {A = ℕ} buckets 0;
     each = λ b h. rw (getD-replicate {A = ℕ} buckets b 0 0 h) empty;
@@ -81,7 +86,7 @@ module _ (n C : ℕ) (w : List ℕ) where
   befores-none m h = record { long = rw (length-replicate {A = ℕ} m 0) h; each = below-none _ }
 
   -- what the walk for v starts from
-  pub chained : (v b : ℕ) (lasts before : List ℕ) → b < buckets → b ≡ bucketOf n C w v → Lasts n C w v lasts → Befores n C w v before →
+  pub chained : (v b : ℕ) (lasts before : List ℕ) → b < buckets → b ≡ bucketOf n C w v → Lasts v lasts → Befores n C w v before →
       Chains n C w v (getD lasts b 0) before
   chained v b lasts before s e l f = record { start = rw (← e) (l .each b s); befores = f }
 
@@ -96,7 +101,7 @@ module _ (n C : ℕ) (w : List ℕ) where
     ];
   }
 
-  pub lasts-more : (v b : ℕ) (lasts : List ℕ) → b < buckets → b ≡ bucketOf n C w v → Lasts n C w v lasts → Lasts n C w (v + 1) (set lasts b (v + 1))
+  pub lasts-more : (v b : ℕ) (lasts : List ℕ) → b < buckets → b ≡ bucketOf n C w v → Lasts v lasts → Lasts (v + 1) (set lasts b (v + 1))
   lasts-more v b lasts s e l = record {
     long = length-set lasts b (v + 1) ∙ l .long;
     each = λ a h. elim (ℕ-discrete a b) [

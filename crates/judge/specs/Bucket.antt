@@ -30,8 +30,3 @@ module _ (n C : ℕ) (w : List ℕ) where
   pub record Chains (v last : ℕ) (before : List ℕ) : Type 0 where
     pub start : Last v (bucketOf n C w v) last
     pub befores : Befores v before
-
-  -- the last place of every bucket
-  pub record Lasts (v : ℕ) (lasts : List ℕ) : Type 0 where
-    pub long : length lasts ≡ buckets
-    pub each : (b : ℕ) → b < buckets → Last v b (getD lasts b 0)

@@ -56,8 +56,9 @@ fn bucket(store: &[u32], n: usize, c: usize, v: usize) -> usize
     (b + 4099 * a) % BUCKETS
 }
 
-// No place below v has v's name: only the places of v's bucket are compared. `last` is one more than the last of them, 0 where
-// there is none, and `before` says the same of each place for its own bucket.
+// No place below v has v's name, if v is open: only the places of v's bucket are compared. `last` is one more than the last of
+// them, 0 where there is none, and `before` says the same of each place for its own bucket. A free place is not compared: the
+// free places are all in one bucket.
 fn fresh(
     store: &[u32],
     n: usize,
@@ -69,6 +70,9 @@ fn fresh(
     requires { ⌜ AtPlace n c (now store) v × Chains n c (now store) v last (now before) ⌝ }
     ensures { λ r. ⌜ Tells r (Fresh n c (now (store .entry)) v) ⌝ }
 {
+    if section::line(store, n, c, v) == 0 {
+        return true;
+    }
     let mut u = last;
     while 0 < u {
         if !differ(store, n, c, v, u - 1) {

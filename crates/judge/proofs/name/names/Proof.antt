@@ -4,8 +4,8 @@ use Prim.Native.Nat.{ℕ, _-_, _≤_, _<_}
 use borrow.Author.Count.{below-none, below-more}
 use Rattle.meaning.proofs.Judged.{Fresh}
 use Rattle.terms.proofs.Told.{passed, failed}
-use Rattle.judge.specs.Bucket.{Lasts, Befores}
-use Rattle.judge.proofs.Buckets.{lasts-none, befores-none, chained, lasts-more, befores-more}
+use Rattle.judge.specs.Bucket.{Befores}
+use Rattle.judge.proofs.Buckets.{Lasts, lasts-none, befores-none, chained, lasts-more, befores-more}
 use borrow.Author.Needs.{needs}
 use native.Mathlib.Omega.{arith}
 use Rattle.judge.proofs.name.names.Statement.{statement}
