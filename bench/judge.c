@@ -6,7 +6,6 @@
  */
 #define _POSIX_C_SOURCE 200809L
 
-#include <stdbool.h>
 #include <stdint.h>
 #include <stdio.h>
 #include <stdlib.h>
@@ -14,7 +13,7 @@
 
 #include "wormstrand.h"
 
-enum { LIMIT = 4, ROUNDS = 15, CALLS = 40 };
+enum { LIMIT = 4, ROUNDS = 400 };
 
 struct full {
     size_t n, c, words;
@@ -60,11 +59,11 @@ static struct full make_full(size_t n)
     uint32_t *line = made.store = make_words(made.words);
     uint32_t *number = line + n, *head = number + n, *length = head + n + 1;
     uint32_t *owner = length + n + 1, *target = owner + made.c, *next = target + made.c;
-    uint32_t *cells = shuffled(made.c), *names = shuffled(n);
+    uint32_t *cells = shuffled(made.c);
     size_t v, k;
     for (v = 0; v < n; v++) {
-        line[v] = 1 + names[v] * 13 % 65535;
-        number[v] = names[v] * UINT32_C(2654435761);
+        line[v] = 1 + random_below(65535);
+        number[v] = random_below(UINT32_MAX);
         length[v] = LIMIT;
         head[v] = cells[LIMIT * v];
         for (k = 0; k < LIMIT; k++) {
@@ -77,7 +76,6 @@ static struct full make_full(size_t n)
     head[n] = UINT32_MAX;
     length[n] = 0;
     free(cells);
-    free(names);
     return made;
 }
 
@@ -88,20 +86,17 @@ static double seconds(void)
     return (double)now.tv_sec + 1e-9 * (double)now.tv_nsec;
 }
 
-/* Asks for the link of places 0 and 1, CALLS times. */
-static void time_round(struct full *full)
+/* Asks for the link of places 0 and 1. */
+static void time_call(struct full *full)
 {
     const uint32_t *line = full->store, *number = line + full->n;
     double began = seconds(), took;
-    int i;
-    for (i = 0; i < CALLS; i++) {
-        uint64_t result = ws_ask(full->n, full->c, LIMIT, full->store, full->words, line[0], number[0], line[1], number[1]);
-        if (result != 1) {
-            fprintf(stderr, "judge: ask gave refusal %u and number %u\n", ws_refusal(result), ws_number(result));
-            exit(1);
-        }
+    uint64_t result = ws_ask(full->n, full->c, LIMIT, full->store, full->words, line[0], number[0], line[1], number[1]);
+    took = seconds() - began;
+    if (result != 1) {
+        fprintf(stderr, "judge: ask gave refusal %u and number %u\n", ws_refusal(result), ws_number(result));
+        exit(1);
     }
-    took = (seconds() - began) / CALLS;
     if (full->least == 0 || took < full->least)
         full->least = took;
 }
@@ -116,8 +111,8 @@ int main(void)
     struct full small = make_full(1024), large = make_full(4096);
     int round;
     for (round = 0; round < ROUNDS; round++) {
-        time_round(&small);
-        time_round(&large);
+        time_call(&small);
+        time_call(&large);
     }
     say(&small);
     say(&large);
