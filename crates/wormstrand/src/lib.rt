@@ -1,8 +1,11 @@
 // The calls for programs in C and Rust, under the names that include/wormstrand.h declares. Each passes on a public call and packs
 // its answer; it judges nothing and knows no table.
 ghost use mathlib.Core.Path.{_≡_};
-ghost use Rattle.wormstrand.specs.Pack.{pack};
+ghost use Rattle.meaning.specs.Calls.{openRun, closeRun, unlink, ask, reading};
+ghost use Rattle.meaning.specs.Promise.{Promise, EmptyPromise, LinkPromise};
+ghost use Rattle.wormstrand.specs.Pack.{named, pack, Packed};
 use terms::refusal::Answer;
+use terms::run::Run;
 
 // One more than the largest number: the refusal stands above it.
 const NUMBERS: u64 = 4294967296;
@@ -15,4 +18,82 @@ fn pack(answer: Answer) -> u64
         Answer::Done(number) => number,
         Answer::Refused(why) => why.number() * NUMBERS,
     }
+}
+
+#[no_mangle]
+pub extern "C" fn ws_empty(n: usize, c: usize, store: &mut [u32]) -> u64
+    ensures { λ r. ⌜ Packed (λ a. EmptyPromise n c (now (store .entry)) a (now (store .exit))) r ⌝ }
+{
+    pack(calls::empty(n, c, store))
+}
+
+#[no_mangle]
+pub extern "C" fn ws_open(n: usize, c: usize, d: usize, store: &mut [u32], line: u32, trip: u32) -> u64
+    ensures { λ r. ⌜ Packed (λ a. Promise n c d (openRun (named line trip)) (now (store .entry)) a (now (store .exit))) r ⌝ }
+{
+    pack(calls::open(n, c, d, store, Run { line, trip }))
+}
+
+#[no_mangle]
+pub extern "C" fn ws_close(n: usize, c: usize, d: usize, store: &mut [u32], line: u32, trip: u32) -> u64
+    ensures { λ r. ⌜ Packed (λ a. Promise n c d (closeRun (named line trip)) (now (store .entry)) a (now (store .exit))) r ⌝ }
+{
+    pack(calls::close(n, c, d, store, Run { line, trip }))
+}
+
+#[no_mangle]
+pub extern "C" fn ws_link(
+    n: usize,
+    c: usize,
+    d: usize,
+    store: &mut [u32],
+    spare: &mut [u32],
+    waiting: &mut [u32],
+    line_a: u32,
+    trip_a: u32,
+    line_b: u32,
+    trip_b: u32,
+) -> u64
+    ensures { λ r. ⌜ Packed (λ a. LinkPromise n c d (named line_a trip_a) (named line_b trip_b) (now (store .entry)) (now (spare .entry)) (now (waiting .entry)) a (now (store .exit)) (now (spare .exit)) (now (waiting .exit))) r ⌝ }
+{
+    pack(calls::link(n, c, d, store, spare, waiting, Run { line: line_a, trip: trip_a }, Run { line: line_b, trip: trip_b }))
+}
+
+#[no_mangle]
+pub extern "C" fn ws_unlink(
+    n: usize,
+    c: usize,
+    d: usize,
+    store: &mut [u32],
+    line_a: u32,
+    trip_a: u32,
+    line_b: u32,
+    trip_b: u32,
+) -> u64
+    ensures { λ r. ⌜ Packed (λ a. Promise n c d (unlink (named line_a trip_a) (named line_b trip_b)) (now (store .entry)) a (now (store .exit))) r ⌝ }
+{
+    pack(calls::unlink(n, c, d, store, Run { line: line_a, trip: trip_a }, Run { line: line_b, trip: trip_b }))
+}
+
+#[no_mangle]
+pub extern "C" fn ws_ask(
+    n: usize,
+    c: usize,
+    d: usize,
+    store: &[u32],
+    line_a: u32,
+    trip_a: u32,
+    line_b: u32,
+    trip_b: u32,
+) -> u64
+    ensures { λ r. ⌜ Packed (λ a. Promise n c d (ask (named line_a trip_a) (named line_b trip_b)) (now (store .entry)) a (now (store .entry))) r ⌝ }
+{
+    pack(calls::ask(n, c, d, store, Run { line: line_a, trip: trip_a }, Run { line: line_b, trip: trip_b }))
+}
+
+#[no_mangle]
+pub extern "C" fn ws_reading(n: usize, c: usize, d: usize, store: &[u32], places: &[u32]) -> u64
+    ensures { λ r. ⌜ Packed (λ a. Promise n c d (reading (now (places .entry))) (now (store .entry)) a (now (store .entry))) r ⌝ }
+{
+    pack(calls::reading(n, c, d, store, places))
 }
