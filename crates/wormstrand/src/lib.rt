@@ -28,14 +28,28 @@ pub extern "C" fn ws_empty(n: usize, c: usize, store: &mut [u32]) -> u64
 }
 
 #[no_mangle]
-pub extern "C" fn ws_open(n: usize, c: usize, d: usize, store: &mut [u32], line: u32, trip: u32) -> u64
+pub extern "C" fn ws_open(
+    n: usize,
+    c: usize,
+    d: usize,
+    store: &mut [u32],
+    line: u32,
+    trip: u32,
+) -> u64
     ensures { λ r. ⌜ Packed (λ a. Promise n c d (openRun (named line trip)) (now (store .entry)) a (now (store .exit))) r ⌝ }
 {
     pack(calls::open(n, c, d, store, Run { line, trip }))
 }
 
 #[no_mangle]
-pub extern "C" fn ws_close(n: usize, c: usize, d: usize, store: &mut [u32], line: u32, trip: u32) -> u64
+pub extern "C" fn ws_close(
+    n: usize,
+    c: usize,
+    d: usize,
+    store: &mut [u32],
+    line: u32,
+    trip: u32,
+) -> u64
     ensures { λ r. ⌜ Packed (λ a. Promise n c d (closeRun (named line trip)) (now (store .entry)) a (now (store .exit))) r ⌝ }
 {
     pack(calls::close(n, c, d, store, Run { line, trip }))
@@ -49,14 +63,29 @@ pub extern "C" fn ws_link(
     store: &mut [u32],
     spare: &mut [u32],
     waiting: &mut [u32],
-    line_a: u32,
-    trip_a: u32,
-    line_b: u32,
-    trip_b: u32,
+    line1: u32,
+    trip1: u32,
+    line2: u32,
+    trip2: u32,
 ) -> u64
-    ensures { λ r. ⌜ Packed (λ a. LinkPromise n c d (named line_a trip_a) (named line_b trip_b) (now (store .entry)) (now (spare .entry)) (now (waiting .entry)) a (now (store .exit)) (now (spare .exit)) (now (waiting .exit))) r ⌝ }
+    ensures { λ r. ⌜ Packed (λ a. LinkPromise n c d (named line1 trip1) (named line2 trip2) (now (store .entry)) (now (spare .entry)) (now (waiting .entry)) a (now (store .exit)) (now (spare .exit)) (now (waiting .exit))) r ⌝ }
 {
-    pack(calls::link(n, c, d, store, spare, waiting, Run { line: line_a, trip: trip_a }, Run { line: line_b, trip: trip_b }))
+    pack(calls::link(
+        n,
+        c,
+        d,
+        store,
+        spare,
+        waiting,
+        Run {
+            line: line1,
+            trip: trip1,
+        },
+        Run {
+            line: line2,
+            trip: trip2,
+        },
+    ))
 }
 
 #[no_mangle]
@@ -65,14 +94,27 @@ pub extern "C" fn ws_unlink(
     c: usize,
     d: usize,
     store: &mut [u32],
-    line_a: u32,
-    trip_a: u32,
-    line_b: u32,
-    trip_b: u32,
+    line1: u32,
+    trip1: u32,
+    line2: u32,
+    trip2: u32,
 ) -> u64
-    ensures { λ r. ⌜ Packed (λ a. Promise n c d (unlink (named line_a trip_a) (named line_b trip_b)) (now (store .entry)) a (now (store .exit))) r ⌝ }
+    ensures { λ r. ⌜ Packed (λ a. Promise n c d (unlink (named line1 trip1) (named line2 trip2)) (now (store .entry)) a (now (store .exit))) r ⌝ }
 {
-    pack(calls::unlink(n, c, d, store, Run { line: line_a, trip: trip_a }, Run { line: line_b, trip: trip_b }))
+    pack(calls::unlink(
+        n,
+        c,
+        d,
+        store,
+        Run {
+            line: line1,
+            trip: trip1,
+        },
+        Run {
+            line: line2,
+            trip: trip2,
+        },
+    ))
 }
 
 #[no_mangle]
@@ -81,14 +123,27 @@ pub extern "C" fn ws_ask(
     c: usize,
     d: usize,
     store: &[u32],
-    line_a: u32,
-    trip_a: u32,
-    line_b: u32,
-    trip_b: u32,
+    line1: u32,
+    trip1: u32,
+    line2: u32,
+    trip2: u32,
 ) -> u64
-    ensures { λ r. ⌜ Packed (λ a. Promise n c d (ask (named line_a trip_a) (named line_b trip_b)) (now (store .entry)) a (now (store .entry))) r ⌝ }
+    ensures { λ r. ⌜ Packed (λ a. Promise n c d (ask (named line1 trip1) (named line2 trip2)) (now (store .entry)) a (now (store .entry))) r ⌝ }
 {
-    pack(calls::ask(n, c, d, store, Run { line: line_a, trip: trip_a }, Run { line: line_b, trip: trip_b }))
+    pack(calls::ask(
+        n,
+        c,
+        d,
+        store,
+        Run {
+            line: line1,
+            trip: trip1,
+        },
+        Run {
+            line: line2,
+            trip: trip2,
+        },
+    ))
 }
 
 #[no_mangle]
