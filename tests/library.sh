@@ -12,4 +12,8 @@ else
 fi
 compile+=(-std=c99 -O2 -Wall -Wextra -Wpedantic -Werror -Iinclude)
 
-rt staticlib wormstrand
+# Building proves the crate again, so an archive that is newer than every source is kept.
+if [ ! -f "$archive" ] || [ -n "$(find crates crates.txt -newer "$archive" -print -quit)" ]; then
+    mkdir -p target
+    rt staticlib wormstrand > target/staticlib.log 2>&1 || { cat target/staticlib.log; exit 1; }
+fi

@@ -1,7 +1,7 @@
 -- Packing loses nothing: a caller takes refusal and number apart again, and two answers packed alike are one answer. Assumes nothing.
 use Prim.Native.Nat.{ℕ, _+_, _-_, _*_, _/_, _%_, _^_, _≤_, _<_}
 use mathlib.Core.List.{List, [], _∷_}
-use mathlib.Core.Path.{_≡_, refl, sym, ap, _∙_}
+use mathlib.Core.Path.{_≡_, refl, sym, ap, subst, _∙_}
 use native.Mathlib.Omega.{arith}
 use lib.ListN.{getD}
 use Rattle.terms.specs.Refusal.{numberOf, refusalOf, valueOf}
@@ -68,3 +68,10 @@ unpack-number a s = omega arith
 -- two answers packed alike are one
 pub pack-own : (a b : Answer) → Small a → Small b → pack a ≡ pack b → a ≡ b
 pack-own a b s t e = answer-own a b (omega arith) (omega arith)
+
+-- where two promises allow one answer between them, what is returned coincides, and the answer can be told from it
+pub packed-one : (P Q : Answer → Type 0) → ((a b : Answer) → P a → Q b → a ≡ b) → (r r' : ℕ) → Packed P r → Packed Q r' → r ≡ r'
+packed-one P Q one r r' p q = p .packed ∙ ap pack (one (p .answer) (q .answer) (p .holds) (q .holds)) ∙ sym (q .packed)
+
+pub packed-back : (P : Answer → Type 0) (a : Answer) (r : ℕ) → Small a → r ≡ pack a → Packed P r → P a
+packed-back P a r s e p = subst P (pack-own (p .answer) a (p .small) s (sym (p .packed) ∙ e)) (p .holds)

@@ -70,22 +70,15 @@ pub extern "C" fn ws_link(
 ) -> u64
     ensures { λ r. ⌜ Packed (λ a. LinkPromise n c d (named line1 trip1) (named line2 trip2) (now (store .entry)) (now (spare .entry)) (now (waiting .entry)) a (now (store .exit)) (now (spare .exit)) (now (waiting .exit))) r ⌝ }
 {
-    pack(calls::link(
-        n,
-        c,
-        d,
-        store,
-        spare,
-        waiting,
-        Run {
-            line: line1,
-            trip: trip1,
-        },
-        Run {
-            line: line2,
-            trip: trip2,
-        },
-    ))
+    let p = Run {
+        line: line1,
+        trip: trip1,
+    };
+    let q = Run {
+        line: line2,
+        trip: trip2,
+    };
+    pack(calls::link(n, c, d, store, spare, waiting, p, q))
 }
 
 #[no_mangle]
@@ -101,20 +94,15 @@ pub extern "C" fn ws_unlink(
 ) -> u64
     ensures { λ r. ⌜ Packed (λ a. Promise n c d (unlink (named line1 trip1) (named line2 trip2)) (now (store .entry)) a (now (store .exit))) r ⌝ }
 {
-    pack(calls::unlink(
-        n,
-        c,
-        d,
-        store,
-        Run {
-            line: line1,
-            trip: trip1,
-        },
-        Run {
-            line: line2,
-            trip: trip2,
-        },
-    ))
+    let p = Run {
+        line: line1,
+        trip: trip1,
+    };
+    let q = Run {
+        line: line2,
+        trip: trip2,
+    };
+    pack(calls::unlink(n, c, d, store, p, q))
 }
 
 #[no_mangle]
@@ -130,20 +118,15 @@ pub extern "C" fn ws_ask(
 ) -> u64
     ensures { λ r. ⌜ Packed (λ a. Promise n c d (ask (named line1 trip1) (named line2 trip2)) (now (store .entry)) a (now (store .entry))) r ⌝ }
 {
-    pack(calls::ask(
-        n,
-        c,
-        d,
-        store,
-        Run {
-            line: line1,
-            trip: trip1,
-        },
-        Run {
-            line: line2,
-            trip: trip2,
-        },
-    ))
+    let p = Run {
+        line: line1,
+        trip: trip1,
+    };
+    let q = Run {
+        line: line2,
+        trip: trip2,
+    };
+    pack(calls::ask(n, c, d, store, p, q))
 }
 
 #[no_mangle]
