@@ -1,0 +1,3 @@
+-- Laws for the stream.
+pub mod Forwards
+pub mod Carrying
