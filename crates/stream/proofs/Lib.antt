@@ -1,3 +1,4 @@
 -- Laws for the stream.
 pub mod Forwards
 pub mod Carrying
+pub mod Stepping
