@@ -36,14 +36,16 @@ pub record Day-records : Type 0 where
   pub records : List Record
   pub stop : Option Refusal
 
+-- a record goes before what is read after it; the end, or a record that is none, is the last
+abbrev pub readOn : Reading → Day-records → Day-records
+readOn (reading.Whole r) rest = record { records = r ∷ rest .records; stop = rest .stop }
+readOn reading.End rest = record { records = []; stop = none }
+readOn (reading.Refused why) rest = record { records = []; stop = some why }
+
 -- each is read from the rest of the stream that starts after the one before; k is at least the number of bytes
 unfoldable pub readAll : ℕ → List ℕ → Day-records
 readAll zero s = record { records = []; stop = none }
-readAll (suc k) s = elim (readingOf s) [
-  | reading.Whole r ↦ let rest : Day-records = readAll k (drop recordBytes s) in record { records = r ∷ rest .records; stop = rest .stop }
-  | reading.End ↦ record { records = []; stop = none }
-  | reading.Refused why ↦ record { records = []; stop = some why }
-]
+readAll (suc k) s = readOn (readingOf s) (readAll k (drop recordBytes s))
 
 abbrev pub recordsOf : List ℕ → Day-records
 recordsOf s = readAll (length s) s

@@ -2,3 +2,4 @@
 pub mod Forwards
 pub mod Carrying
 pub mod Stepping
+pub mod Streaming

@@ -64,9 +64,7 @@ pub fn step(
     totals: Totals,
 ) -> Totals
     requires { ⌜ StepOk n c d (now store) (now spare) (now waiting) (now answers) position totals ⌝ }
-    ensures {
-        λ r. ⌜ Stepped n c d rec (now (store .entry)) (now (spare .entry)) (now (waiting .entry)) (now (answers .entry)) position totals (now (store .exit)) (now (spare .exit)) (now (waiting .exit)) (now (answers .exit)) r ⌝
-    }
+    ensures { λ r. ⌜ Stepped n c d rec (now (store .entry)) (now (spare .entry)) (now (waiting .entry)) (now (answers .entry)) position totals (now (store .exit)) (now (spare .exit)) (now (waiting .exit)) (now (answers .exit)) r ⌝ }
 {
     let answer = carry(store, spare, waiting, n, c, d, rec);
     put_answer(answers, position, answer);
