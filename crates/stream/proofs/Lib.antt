@@ -3,3 +3,4 @@ pub mod Forwards
 pub mod Carrying
 pub mod Stepping
 pub mod Streaming
+pub mod Promising
