@@ -1,13 +1,14 @@
 -- Document 01, "Examples": p1 to p10, as one joint statement about the meaning, by computation. Assumes nothing.
 use Prim.Native.Nat.{ℕ}
 use mathlib.Core.List.{List, [], _∷_, _++_, map}
+use mathlib.Core.Option.{Option, none, some}
 use mathlib.Core.Path.{_≡_, refl}
 use lib.ListN.{length}
 use Rattle.terms.specs.Refusal.{refusalOf, valueOf}
 use Rattle.terms.specs.Run.{badName, sameRun}
 use Rattle.terms.specs.declared.run.Run.{Run}
-use Rattle.meaning.specs.Cells.{Cell, Lists, list, same}
-use Rattle.meaning.specs.Turning.{handAll, turning}
+use Rattle.meaning.specs.Cells.{Cell, Lists, list, push, same}
+use Rattle.meaning.specs.Turning.{handAll, settled, dense, turning}
 use Rattle.meaning.specs.Day.{Day, emptyDay}
 use Rattle.meaning.specs.Calls.{Call, openRun, closeRun, link, unlink, ask, reading, Outcome, call}
 
@@ -66,6 +67,17 @@ star = link a b ∷ link a c ∷ link a d ∷ []
 abbrev burst : List Call
 burst = link b x ∷ link b y ∷ link a b ∷ link a c ∷ []
 
+abbrev cell : ℕ → ℕ → Cell
+cell i t = record { index = i; target = t }
+
+-- the lists of the burst with the link a-d at the front of a's, in the first free cell
+abbrev begun : Lists
+begun = (cell 4 3 ∷ cell 3 2 ∷ cell 2 1 ∷ []) ∷ (cell 1 5 ∷ cell 0 4 ∷ []) ∷ [] ∷ [] ∷ [] ∷ [] ∷ []
+
+-- the number of reversals after so many turned lists, none where a place still waits
+abbrev within : ℕ → Lists → ℕ → Option ℕ
+within m ls v = elim (turning 2 m ls (v ∷ []) 0) [ settled ls' r ↦ some r | dense ↦ none ]
+
 abbrev lines : Day
 lines = after 2 (emptyDay 3 3) (openRun a ∷ openRun other ∷ openRun c ∷ link a c ∷ [])
 
@@ -78,16 +90,18 @@ abbrev P2 : Type 0
 P2 = (last 2 (six 8) (link a b ∷ link a c ∷ []) (link a d) ≡ (0, 3))
     × (map (ends (after 2 (six 8) star)) (0 ∷ 1 ∷ 2 ∷ 3 ∷ []) ≡ [] ∷ (0 ∷ []) ∷ (0 ∷ []) ∷ (0 ∷ []) ∷ [])
 
--- link b-x, b-y, a-b, a-c, a-d: the last returns 6; a holds b; c and d hold a; x and y hold b; b is empty
+-- link b-x, b-y, a-b, a-c, a-d: the last returns 6 after two turned lists, and after one a place still waits; a holds b; c and d
+-- hold a; x and y hold b; b is empty
 abbrev P3 : Type 0
 P3 = (last 2 (six 8) burst (link a d) ≡ (0, 6))
     × (map (ends (after 2 (six 8) (burst ++ (link a d ∷ [])))) (0 ∷ 1 ∷ 2 ∷ 3 ∷ 4 ∷ 5 ∷ [])
     ≡ (1 ∷ []) ∷ [] ∷ (0 ∷ []) ∷ (0 ∷ []) ∷ (1 ∷ []) ∷ (1 ∷ []) ∷ [])
+    × (push (after 2 (six 8) burst .lists) 0 (cell 4 3) ≡ begun) × (within 1 begun 0 ≡ none) × (within 2 begun 0 ≡ some 6)
 
 -- D = 3: a holds d, c, b; unlink c-a leaves d, b, and the next link takes the freed cell
 abbrev P4 : Type 0
 P4 = (ends (after 3 (six 8) star) 0 ≡ 3 ∷ 2 ∷ 1 ∷ []) × (ends (after 3 (six 8) (star ++ (unlink c a ∷ []))) 0 ≡ 3 ∷ 1 ∷ [])
-    × (cellsIn (after 3 (six 8) (star ++ (unlink c a ∷ link x y ∷ []))) 4 ≡ 1 ∷ [])
+    × (cellsIn (after 3 (six 8) star) 0 ≡ 2 ∷ 1 ∷ 0 ∷ []) × (cellsIn (after 3 (six 8) (star ++ (unlink c a ∷ link x y ∷ []))) 4 ≡ 1 ∷ [])
 
 -- link of a run to itself: 4; with line 0 on both sides: 3
 abbrev P5 : Type 0
@@ -117,4 +131,4 @@ P10 = last 2 (six 8) star (closeRun a) ≡ (10, 0)
 
 pub examples : P1 × P2 × P3 × P4 × P5 × P6 × P7 × P8 × P9 × P10
 unfolding turning handAll badName sameRun same
-examples = (refl, (refl, refl), (refl, refl), (refl, refl, refl), refl, (refl, refl), refl, (refl, refl), refl, refl)
+examples = (refl, (refl, refl), (refl, refl, refl, refl, refl), (refl, refl, refl, refl), refl, (refl, refl), refl, (refl, refl), refl, refl)

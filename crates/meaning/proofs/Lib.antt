@@ -1,5 +1,6 @@
 -- The laws that other crates use in the place of the definitions' text, and the worked examples.
 pub mod Examples
+pub mod Borders
 pub mod Words
 pub mod Lists
 pub mod Right
@@ -28,3 +29,4 @@ pub mod Kept
 pub mod Empty
 pub mod EmptyDay
 pub mod Handing
+pub mod Numbers

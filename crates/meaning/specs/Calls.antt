@@ -1,5 +1,5 @@
 -- Document 01, "What each call does" and "Refusal numbers": the calls on a day.
-use Prim.Native.Nat.{ℕ, zero, suc, _+_, _-_, _*_, _/_}
+use Prim.Native.Nat.{ℕ, _+_, _-_, _*_, _/_}
 use mathlib.Core.Bool.{Bool, true, false, not, _||_, _&&_}
 use mathlib.Core.List.{List, [], _∷_}
 use mathlib.Core.Option.{Option, none, some}
@@ -11,7 +11,7 @@ use Rattle.terms.specs.declared.refusal.Refusal.{Refusal}
 use Rattle.terms.specs.declared.refusal.Refusal.the-variants.{BadName, SameRun, NotOpen, Already, NoLink, NoRoom, TooDense, Touched, BadSet}
 use Rattle.terms.specs.declared.refusal.Answer.{Answer}
 use Rattle.terms.specs.declared.refusal.Answer.the-variants.{Done, Refused}
-use Rattle.meaning.specs.Cells.{Cell, Lists, list, push, first, without, seek, holds, sum, links, same}
+use Rattle.meaning.specs.Cells.{Cell, Lists, list, push, without, seek, holds, sum, links, same}
 use Rattle.meaning.specs.Turning.{over, Ending, settled, dense, turning}
 use Rattle.meaning.specs.Day.{Day, runOf, placeOf, isOpen, lowest}
 
@@ -42,12 +42,13 @@ linked s u v = holds v (list (s .lists) u) || holds u (list (s .lists) v)
 abbrev pub touched : Day → ℕ → Bool
 touched s v = ltb 0 (sum (λ u c. same u v + same (c .target) v) (s .lists))
 
--- fewer than two places, or not strictly rising
+-- strictly rising place numbers
 abbrev pub rising : List ℕ → Bool
 rising [] = true
 rising (p ∷ []) = true
 rising (p ∷ q ∷ ps) = ltb p q && rising (q ∷ ps)
 
+-- fewer than two places, or not strictly rising
 abbrev pub badSet : List ℕ → Bool
 badSet ps = ltb (length ps) 2 || not (rising ps)
 
@@ -65,6 +66,7 @@ abbrev pub pairTests : Day → Run → Run → Tests → Tests
 pairTests s p q ts =
     (badName p || badName q, BadName) ∷ (sameRun p q, SameRun) ∷ (not (isOpen s p) || not (isOpen s q), NotOpen) ∷ ts
 
+-- the rows that concern each call, in number order, but 14 before 5
 abbrev pub tests : Day → Call → Tests
 tests s (openRun p) = (badName p, BadName) ∷ (isOpen s p, Already) ∷ (leb (length (s .runs)) (lowest s), NoRoom) ∷ []
 tests s (closeRun p) = (badName p, BadName) ∷ (not (isOpen s p), NotOpen) ∷ (touched s (placeOf s p), Touched) ∷ []
@@ -97,6 +99,7 @@ linkIn D s u v i fs =
       | false ↦ done 0 (record { runs = s .runs; lists = ls; free = fs })
     ]
 
+-- no cell is free: the test for it stands before, so this answers nobody
 abbrev pub doLink : ℕ → Day → ℕ → ℕ → List ℕ → Outcome
 doLink D s u v [] = refused NoRoom s
 doLink D s u v (i ∷ fs) = linkIn D s u v i fs
@@ -135,6 +138,7 @@ act D s (unlink p q) = doUnlink s (placeOf s p) (placeOf s q)
 act D s (ask p q) = done (yes1 (linked s (placeOf s p) (placeOf s q))) s
 act D s (reading ps) = done (inside s ps / (length ps - 1)) s
 
+-- refused, or what the call does
 abbrev pub unless : Option Refusal → Day → Outcome → Outcome
 unless none s o = o
 unless (some why) s o = refused why s

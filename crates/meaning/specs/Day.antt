@@ -1,5 +1,5 @@
 -- What a table holds: the runs by place, the lists of cells, the free cells; and the table that empty writes.
-use Prim.Native.Nat.{ℕ, zero, suc, _+_, _*_}
+use Prim.Native.Nat.{ℕ, zero, suc}
 use mathlib.Core.Bool.{Bool}
 use mathlib.Core.List.{List, [], _∷_, _++_, map}
 use lib.Dec.{eqb, ltb}
@@ -28,6 +28,7 @@ runOf s v = getD (s .runs) v noRun
 abbrev pub placeOf : Day → Run → ℕ
 placeOf s p = first (sameRun p) (s .runs)
 
+-- a run is open where it has a place
 abbrev pub isOpen : Day → Run → Bool
 isOpen s p = ltb (placeOf s p) (length (s .runs))
 

@@ -1,10 +1,8 @@
 -- Document 01, "The store, section by section": which word of the table is which. n is the number of places, C of cells,
 -- w the table's words.
-use Prim.Native.Nat.{ℕ, zero, suc, _+_, _*_, _-_}
-use mathlib.Core.Bool.{true, false}
-use mathlib.Core.List.{List, []}
-use lib.Dec.{eqb}
-use lib.ListN.{getD, set, replicate}
+use Prim.Native.Nat.{ℕ, _+_, _*_}
+use mathlib.Core.List.{List}
+use lib.ListN.{getD, set}
 
 -- NONE is 4,294,967,295
 abbrev pub NONE : ℕ

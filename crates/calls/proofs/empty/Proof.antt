@@ -17,10 +17,14 @@ store-words-requires : tie.Need-store-words-requires
 store-words-requires c κs = own-room _ _ _ (c .before .before .before .of .ensures) _ (c .before .room .given .1)
 
 returns : tie.Need-returns
-returns c = empty-short _ _ _ _ (c .before .before .before .before .before .of .ensures) _ (c .before .before .before .room .given .1) _ (c .before .store-words .ensures) (c .if1 .taken)
+returns c =
+    empty-short _ _ _ _ (c .before .before .before .before .before .of .ensures) _ (c .before .before .before .room .given .1) _
+    (c .before .store-words .ensures) (c .if1 .taken)
 
 empty-requires : tie.Need-empty-requires
-empty-requires c κs = empty-within _ _ _ _ (c .before .before .before .before .before .before .of .ensures) _ (c .before .before .before .before .room .given .1) _ (c .before .before .store-words .ensures) (c .before .if1 .left)
+empty-requires c κs =
+    empty-within _ _ _ _ (c .before .before .before .before .before .before .of .ensures) _ (c .before .before .before .before .room .given .1)
+    _ (c .before .before .store-words .ensures) (c .before .if1 .left)
 
 returns-2 : tie.Need-returns-2
 returns-2 c = empty-outside _ _ _ _ (c .before .before .of .ensures) (c .enum-told .given .1)
@@ -29,7 +33,11 @@ same-length : tie.Need-same-length
 same-length c = search needs
 
 returns-3 : tie.Need-returns-3
-returns-3 c = empty-done _ _ _ _ (c .before .before .before .before .before .before .before .before .before .of .ensures) _ (c .before .before .before .before .before .before .before .room .given .1) _ (c .before .before .before .before .before .store-words .ensures) (c .before .before .before .before .if1 .left) _ (c .before .before .empty .ensures)
+returns-3 c =
+    empty-done _ _ _ _ (c .before .before .before .before .before .before .before .before .before .of .ensures) _
+    (c .before .before .before .before .before .before .before .room .given .1) _
+    (c .before .before .before .before .before .store-words .ensures) (c .before .before .before .before .if1 .left) _
+    (c .before .before .empty .ensures)
 
 pub empty-spec : {M : Type 1} → statement M
 empty-spec =

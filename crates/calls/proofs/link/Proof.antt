@@ -23,7 +23,10 @@ enum-told-3 : tie.Need-enum-told-3
 enum-told-3 c = search needs
 
 link-requires : tie.Need-link-requires
-link-requires c κs = sound-lent _ _ _ _ _ _ (c .before .before .before .before .before .before .before .before .if1 .left) (c .before .before .before .before .before .before .before .if2 .left) (says-sound _ _ _ _ _ (c .before .before .before .before .before .judge .ensures) (c .before .before .before .enum-told3 .given .1))
+link-requires c κs =
+    sound-lent _ _ _ _ _ _ (c .before .before .before .before .before .before .before .before .if1 .left)
+    (c .before .before .before .before .before .before .before .if2 .left)
+    (says-sound _ _ _ _ _ (c .before .before .before .before .before .judge .ensures) (c .before .before .before .enum-told3 .given .1))
 
 same-length : tie.Need-same-length
 same-length c = search needs
@@ -35,7 +38,9 @@ same-length-2 : tie.Need-same-length-2
 same-length-2 c = search needs
 
 returns-4 : tie.Need-returns-4
-returns-4 c = link-unsound _ _ _ _ _ _ _ _ _ (c .before .before .judge .ensures) (c .before .before .before .before .before .if1 .left) (c .before .before .before .before .if2 .left) (c .enum-told2 .given .1)
+returns-4 c =
+    link-unsound _ _ _ _ _ _ _ _ _ (c .before .before .judge .ensures) (c .before .before .before .before .before .if1 .left)
+    (c .before .before .before .before .if2 .left) (c .enum-told2 .given .1)
 
 same-length-3 : tie.Need-same-length-3
 same-length-3 c = search needs
@@ -47,7 +52,13 @@ same-length-5 : tie.Need-same-length-5
 same-length-5 c = search needs
 
 returns-5 : tie.Need-returns-5
-returns-5 c = link-sound _ _ _ _ _ _ _ _ _ (c .before .before .before .before .before .before .before .before .before .before .before .before .judge .ensures) (c .before .before .before .before .before .before .before .before .before .before .before .before .before .before .before .if1 .left) (c .before .before .before .before .before .before .before .before .before .before .before .before .before .before .if2 .left) (c .before .before .before .before .before .before .before .before .before .before .enum-told3 .given .1) _ _ _ _ (c .before .before .before .before .before .before .link .ensures)
+returns-5 c =
+    link-sound _ _ _ _ _ _ _ _ _
+    (c .before .before .before .before .before .before .before .before .before .before .before .before .judge .ensures)
+    (c .before .before .before .before .before .before .before .before .before .before .before .before .before .before .before .if1 .left)
+    (c .before .before .before .before .before .before .before .before .before .before .before .before .before .before .if2 .left)
+    (c .before .before .before .before .before .before .before .before .before .before .enum-told3 .given .1) _ _ _ _
+    (c .before .before .before .before .before .before .link .ensures)
 
 pub link-spec : {M : Type 1} → statement M
 link-spec =

@@ -35,7 +35,9 @@ same-length-3 : tie.Need-same-length-3
 same-length-3 c = search needs
 
 returns-3 : tie.Need-returns-3
-returns-3 c = promise-sound _ _ _ _ _ _ (c .before .before .before .before .before .before .judge .ensures) (c .before .before .before .before .enum-told3 .given .1) _ _ (c .before .before .unlink .ensures)
+returns-3 c =
+    promise-sound _ _ _ _ _ _ (c .before .before .before .before .before .before .judge .ensures)
+    (c .before .before .before .before .enum-told3 .given .1) _ _ (c .before .before .unlink .ensures)
 
 pub unlink-spec : {M : Type 1} → statement M
 unlink-spec =

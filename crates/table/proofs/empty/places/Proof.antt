@@ -44,8 +44,12 @@ same-length : tie.Need-same-length
 same-length c = search needs
 
 returns : tie.Need-returns
-returns c = places-emptied _ _ _ _ _ _ _ _ (c .before .before .before .before .before .before .before .before .before .before .before .before .before .before .before .before .before .before .before .before .before .pre) (c .before .before .before .before .before .before .before .before .before .before .before .before .before .before .before .before .before .before .fill .ensures)
-    (c .before .before .before .before .before .before .before .before .before .before .before .before .before .before .fill2 .ensures) (c .before .before .before .before .before .before .before .before .before .before .put .ensures)
+returns c =
+    places-emptied _ _ _ _ _ _ _ _
+    (c .before .before .before .before .before .before .before .before .before .before .before .before .before .before .before .before .before .before .before .before .before .pre)
+    (c .before .before .before .before .before .before .before .before .before .before .before .before .before .before .before .before .before .before .fill .ensures)
+    (c .before .before .before .before .before .before .before .before .before .before .before .before .before .before .fill2 .ensures)
+    (c .before .before .before .before .before .before .before .before .before .before .put .ensures)
     (c .before .before .before .before .before .before .fill3 .ensures) (c .before .before .put2 .ensures)
 
 pub places-spec : {M : Type 1} → statement M
