@@ -10,6 +10,7 @@ use Rattle.terms.specs.declared.refusal.Answer.{Answer}
 use Rattle.terms.specs.declared.refusal.Answer.the-variants.{Done, Refused}
 use Rattle.meaning.specs.Cells.{sum, same}
 use Rattle.meaning.specs.Day.{Day, runOf}
+pub use Rattle.meaning.specs.Stream.{accepts, taken, reversed}
 use Rattle.meaning.specs.Calls.{Call, openRun, closeRun, link, unlink, ask, reading, Outcome, call, yes1}
 
 -- ---- calls in turn, all with the one limit D
@@ -17,11 +18,6 @@ use Rattle.meaning.specs.Calls.{Call, openRun, closeRun, link, unlink, ask, rea
 abbrev pub after : ℕ → Day → List Call → Day
 after D s [] = s
 after D s (q ∷ qs) = after D (call D s q .after) qs
-
--- the call was not refused
-abbrev pub accepts : Answer → Bool
-accepts (Done k) = true
-accepts (Refused why) = false
 
 -- the pair x, y is the pair p, q, in either order, each a line and a trip number together
 unfoldable pub samePair : Run → Run → Run → Run → Bool
@@ -63,23 +59,6 @@ partings p q D s (c ∷ cs) = yes1 (parts p q c (call D s c .answer)) + partings
 -- asking says yes: 1; no, or the question is refused: 0
 abbrev pub asked : ℕ → Day → Run → Run → ℕ
 asked D s p q = valueOf (call D s (ask p q) .answer)
-
--- 1 for an accepted link, and the reversals it answers
-abbrev pub taken : Call → Answer → ℕ
-taken (openRun x) a = 0
-taken (closeRun x) a = 0
-taken (link x y) a = yes1 (accepts a)
-taken (unlink x y) a = 0
-taken (ask x y) a = 0
-taken (reading ps) a = 0
-
-abbrev pub reversed : Call → Answer → ℕ
-reversed (openRun x) a = 0
-reversed (closeRun x) a = 0
-reversed (link x y) a = valueOf a
-reversed (unlink x y) a = 0
-reversed (ask x y) a = 0
-reversed (reading ps) a = 0
 
 -- k: the links that were accepted; the reversals of accepted links
 abbrev pub accepted : ℕ → Day → List Call → ℕ

@@ -5,4 +5,5 @@ pub mod Soundness
 pub mod Turning
 pub mod Day
 pub mod Calls
+pub mod Stream
 pub mod Promise

@@ -1,17 +1,21 @@
 -- What every public call promises, for all numbers and tables handed in: its answer and each table as it leaves it.
-use Prim.Native.Nat.{ℕ}
+use Prim.Native.Nat.{ℕ, _*_, _/_, _≤_}
 use mathlib.Core.Bool.{Bool, true, false}
 use mathlib.Core.List.{List}
+use mathlib.Core.Option.{Option, none, some}
 use mathlib.Core.Path.{_≡_}
 use lib.ListN.{length, replicate}
-use Rattle.terms.specs.Size.{InRoom, storeWords, waitingWords}
+use Rattle.terms.specs.Size.{InRoom, storeWords, waitingWords, streamMost, totalMost}
 use Rattle.terms.specs.declared.run.Run.{Run}
 use Rattle.terms.specs.declared.refusal.Answer.{Answer}
 use Rattle.terms.specs.declared.refusal.Answer.the-variants.{Done, Refused}
+use Rattle.terms.specs.declared.refusal.Refusal.{Refusal}
 use Rattle.terms.specs.declared.refusal.Refusal.the-variants.{Sizes, Unsound}
+use Rattle.record.specs.Bytes.{recordBytes}
 use Rattle.meaning.specs.Soundness.{Sized, Sound}
 use Rattle.meaning.specs.Day.{Day, dayOf, emptyTable}
 use Rattle.meaning.specs.Calls.{Call, link, Outcome, call}
+use Rattle.meaning.specs.Stream.{recordsOf, Progress, carryAll}
 
 -- the table is sound and holds the day; that day alone determines its words
 pub record Holds (n C D : ℕ) (w : List ℕ) (s : Day) : Type 0 where
@@ -58,3 +62,55 @@ pub record LinkPromise (n C D : ℕ) (p q : Run) (w spare waiting : List ℕ) (a
   pub sizes : (Lent n C D w spare waiting → ⊥) → (a ≡ Refused Sizes) × (w' ≡ w) × (spare' ≡ spare) × (waiting' ≡ waiting)
   pub unsound : Lent n C D w spare waiting → (Sound n C D w → ⊥) → (a ≡ Refused Unsound) × (w' ≡ w) × (spare' ≡ spare) × (waiting' ≡ waiting)
   pub sound : Lent n C D w spare waiting → Sound n C D w → LinkCarries n C D p q w spare waiting a w' spare' waiting'
+
+-- the tables that a stream is lent beside its bytes, and its two running totals
+pub record Tables : Type 0 where
+  pub store : List ℕ
+  pub spare : List ℕ
+  pub waiting : List ℕ
+  pub answers : List ℕ
+  pub accepted : ℕ
+  pub reversals : ℕ
+
+-- refusal 1 for a stream: also a stream too long, an answer table shorter than two words a record, a total above 2^62
+pub record StreamLent (n C D : ℕ) (bytes : List ℕ) (t : Tables) : Type 0 where
+  pub lent : Lent n C D (t .store) (t .spare) (t .waiting)
+  pub short : length bytes ≤ streamMost
+  pub answers-long : 2 * (length bytes / recordBytes) ≤ length (t .answers)
+  pub accepted-most : t .accepted ≤ totalMost
+  pub reversals-most : t .reversals ≤ totalMost
+
+-- what a stream returns: the refusal that stopped it, none at the end of the bytes, and the number of records carried out
+pub record Result : Type 0 where
+  pub stop : Option Refusal
+  pub carried : ℕ
+
+-- a stream on a sound table, from the day that it holds
+abbrev pub progress : ℕ → ℕ → ℕ → List ℕ → Tables → Progress
+progress n C D bytes t =
+    carryAll D (recordsOf bytes .records)
+    (record { day = dayOf n C (t .store); answers = t .answers; carried = 0; accepted = t .accepted; reversals = t .reversals; turned = none })
+
+-- spare and waiting hold what the last link that began turning left, and stay if none did
+abbrev pub SpareIs : ℕ → ℕ → ℕ → Option Day → List ℕ → List ℕ → Type 0
+SpareIs n C D none spare spare' = spare' ≡ spare
+SpareIs n C D (some s) spare spare' = Holds n C D spare' s
+
+abbrev pub waitingThen : ℕ → Option Day → List ℕ → List ℕ
+waitingThen n none waiting = waiting
+waitingThen n (some s) waiting = replicate n 0
+
+pub record StreamCarries (n C D : ℕ) (bytes : List ℕ) (t : Tables) (r : Result) (t' : Tables) : Type 0 where
+  pub stop : r .stop ≡ recordsOf bytes .stop
+  pub carried : r .carried ≡ progress n C D bytes t .carried
+  pub holds : Holds n C D (t' .store) (progress n C D bytes t .day)
+  pub spared : SpareIs n C D (progress n C D bytes t .turned) (t .spare) (t' .spare)
+  pub waited : t' .waiting ≡ waitingThen n (progress n C D bytes t .turned) (t .waiting)
+  pub answered : t' .answers ≡ progress n C D bytes t .answers
+  pub accepted : t' .accepted ≡ progress n C D bytes t .accepted
+  pub reversals : t' .reversals ≡ progress n C D bytes t .reversals
+
+pub record StreamPromise (n C D : ℕ) (bytes : List ℕ) (t : Tables) (r : Result) (t' : Tables) : Type 0 where
+  pub sizes : (StreamLent n C D bytes t → ⊥) → (r ≡ record { stop = some Sizes; carried = 0 }) × (t' ≡ t)
+  pub unsound : StreamLent n C D bytes t → (Sound n C D (t .store) → ⊥) → (r ≡ record { stop = some Unsound; carried = 0 }) × (t' ≡ t)
+  pub sound : StreamLent n C D bytes t → Sound n C D (t .store) → StreamCarries n C D bytes t r t'

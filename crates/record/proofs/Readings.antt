@@ -6,11 +6,11 @@ use mathlib.Core.Path.{_≡_}
 use lib.ListN.{length, getD}
 use borrow.Author.Tests.{eq-eqb, ne-eqb, lt-ltb, le-ltb}
 use native.Mathlib.Omega.{arith}
-use Rattle.terms.specs.Run.{sameRun}
+use Rattle.terms.specs.Run.{sameRun, noRun}
 use Rattle.terms.specs.declared.run.Run.{Run}
 use Rattle.terms.specs.declared.refusal.Refusal.the-variants.{WrongMark, WrongKind, CutShort}
 use Rattle.record.specs.Bytes.{recordBytes, marked, kindOf, runAt}
-use Rattle.record.specs.Reading.{namesOne, noRun, checked, readingOf}
+use Rattle.record.specs.Reading.{namesOne, checked, readingOf}
 use Rattle.record.specs.declared.Kind.{Kind}
 use Rattle.record.specs.declared.reader.KindByte.the-variants.{Known, Unknown}
 use Rattle.record.specs.declared.reader.Reading.the-variants.{Whole, End, Refused}

@@ -5,11 +5,11 @@ use mathlib.Core.List.{List, [], _++_}
 use mathlib.Core.Path.{_≡_, refl, sym, ap, _∙_}
 use native.Mathlib.Omega.{arith}
 use lib.ListN.{length, getD}
-use Rattle.terms.specs.Run.{lineMost}
+use Rattle.terms.specs.Run.{lineMost, noRun}
 use Rattle.terms.proofs.Names.{run-path, same-refl}
 use Rattle.terms.specs.declared.run.Run.{Run}
 use Rattle.record.specs.Bytes.{recordBytes, kindOf, runBytes, RunFits, bytesOf, runAt}
-use Rattle.record.specs.Reading.{namesOne, noRun, checked, readingOf}
+use Rattle.record.specs.Reading.{namesOne, checked, readingOf}
 use Rattle.record.specs.declared.Record.{Record}
 use Rattle.record.specs.declared.reader.KindByte.the-variants.{Known}
 use Rattle.record.specs.declared.reader.Reading.the-variants.{Whole}

@@ -4,7 +4,7 @@ use mathlib.Core.Bool.{Bool, true, false, not, cond, _&&_}
 use mathlib.Core.List.{List}
 use lib.Dec.{eqb, ltb}
 use lib.ListN.{length, getD}
-use Rattle.terms.specs.Run.{sameRun}
+use Rattle.terms.specs.Run.{noRun, sameRun}
 use Rattle.terms.specs.declared.run.Run.{Run}
 use Rattle.terms.specs.declared.refusal.Refusal.the-variants.{WrongMark, WrongKind, CutShort}
 use Rattle.record.specs.Bytes.{recordBytes, marked, kindOf, runAt}
@@ -24,11 +24,7 @@ namesOne Link = false
 namesOne Unlink = false
 namesOne Ask = false
 
--- the second run of kinds 1 and 2: six zero bytes
-abbrev pub noRun : Run
-noRun = record { line = 0; trip = 0 }
-
--- a record of kind 1 or 2 whose second run is not zero is refused with 12
+-- the second run of kinds 1 and 2 is six zero bytes, else the record is refused with 12
 unfoldable pub checked : Kind → Run → Run → Reading
 checked k a b = cond (namesOne k && not (sameRun b noRun)) (Refused WrongKind) (Whole (record { kind = k; first = a; second = b }))
 

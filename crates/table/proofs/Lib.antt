@@ -1,2 +1,3 @@
--- What filling a table from its start shows.
+-- What filling a table from its start shows, and writing it by sections.
 pub mod Fill
+pub mod Writing

@@ -1,2 +1,3 @@
 pub mod Within
 pub mod Stepping
+pub mod Writing

@@ -6,6 +6,8 @@ use Rattle.terms.specs.declared.size.Roomed.{Roomed}
 use Rattle.terms.specs.declared.size.Roomed.the-variants as roomed
 use Rattle.terms.specs.declared.size.Limited.{Limited}
 use Rattle.terms.specs.declared.size.Limited.the-variants as limited
+use Rattle.terms.specs.declared.size.Measured.{Measured}
+use Rattle.terms.specs.declared.size.Measured.the-variants as measured
 
 -- places for runs: 1 to 4,096; cells for links: 1 to 16,384
 pub record InRoom (n C : ℕ) : Type 0 where
@@ -44,3 +46,8 @@ RoomTold roomed.Outside n C = InRoom n C → ⊥
 abbrev pub LimitTold : Limited → ℕ → Type 0
 LimitTold (limited.Within l) D = (l .d ≡ D) × InLimit D
 LimitTold limited.Outside D = InLimit D → ⊥
+
+-- what Length::of answers
+abbrev pub LengthTold : Measured → ℕ → Type 0
+LengthTold (measured.Within l) bytes = (l .bytes ≡ bytes) × (bytes ≤ streamMost)
+LengthTold measured.Outside bytes = bytes ≤ streamMost → ⊥

@@ -1,6 +1,6 @@
 // The sizes of a store and their limits: each number stands here once. A constructor takes any number that fits a word
 // of the machine and answers with the size or with Outside.
-ghost use Rattle.terms.specs.Size.{storeWords, RoomTold, LimitTold, InRoom};
+ghost use Rattle.terms.specs.Size.{storeWords, RoomTold, LimitTold, LengthTold, InRoom};
 ghost use mathlib.Core.Path.{_≡_};
 
 // Places for runs and cells for links: what fixes the length of every table.
@@ -75,5 +75,28 @@ impl Limit {
             return Limited::Outside;
         }
         Limited::Within(Limit { d })
+    }
+}
+
+// How many bytes a stream may have: 65,535 records of 15.
+pub struct Length {
+    pub bytes: usize,
+}
+
+pub enum Measured {
+    Within(Length),
+    Outside,
+}
+
+impl Length {
+    pub const MOST: usize = 983025;
+
+    pub fn of(bytes: usize) -> Measured
+        ensures { λ r. ⌜ LengthTold r bytes ⌝ }
+    {
+        if bytes > Length::MOST {
+            return Measured::Outside;
+        }
+        Measured::Within(Length { bytes })
     }
 }

@@ -1,0 +1,3 @@
+-- Laws for the public calls.
+pub mod Promising
+pub mod Tight

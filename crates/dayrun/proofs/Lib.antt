@@ -1,0 +1,2 @@
+-- Laws for dayrun's last line.
+pub mod Standings

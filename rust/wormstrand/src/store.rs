@@ -1,0 +1,76 @@
+//! A store with its tables.
+
+use crate::calls;
+use crate::refusal::Refusal;
+use crate::sizes::{Run, Sizes};
+
+/// A store that owns its tables, all of the lengths that its sizes ask for.
+#[derive(Clone, Debug, PartialEq, Eq)]
+pub struct Store {
+    sizes: Sizes,
+    words: Vec<u32>,
+    spare: Vec<u32>,
+    waiting: Vec<u32>,
+}
+
+impl Store {
+    /// A store with no run and no link, or `Sizes` where a size is outside its limits.
+    pub fn new(sizes: Sizes) -> Result<Store, Refusal> {
+        let length = sizes.store_words().ok_or(Refusal::Sizes)?;
+        let mut words = vec![0; length];
+        calls::empty(sizes, &mut words).number()?;
+        Store::of(sizes, words)
+    }
+
+    /// A store of given words, as `words` has handed them out: refused with `Sizes` or `Unsound` where they do not fit.
+    pub fn of(sizes: Sizes, words: Vec<u32>) -> Result<Store, Refusal> {
+        // The store is judged before the set, so an empty set is reached only by a sound store.
+        match calls::reading(sizes, &words, &[]).number() {
+            Err(Refusal::BadSet) => {}
+            Err(refusal) => return Err(refusal),
+            Ok(_) => unreachable!("an empty set has no reading"),
+        }
+        let (spare, waiting) = (vec![0; words.len()], vec![0; sizes.n]);
+        Ok(Store { sizes, words, spare, waiting })
+    }
+
+    /// The sizes it was made with.
+    pub fn sizes(&self) -> Sizes {
+        self.sizes
+    }
+
+    /// The words of the store.
+    pub fn words(&self) -> &[u32] {
+        &self.words
+    }
+
+    /// Opens a run in the lowest free place, and gives that place.
+    pub fn open(&mut self, run: Run) -> Result<u32, Refusal> {
+        calls::open(self.sizes, &mut self.words, run).number()
+    }
+
+    /// Closes a run that no link touches.
+    pub fn close(&mut self, run: Run) -> Result<(), Refusal> {
+        calls::close(self.sizes, &mut self.words, run).number().map(drop)
+    }
+
+    /// Links two open runs, and gives the number of reversals.
+    pub fn link(&mut self, a: Run, b: Run) -> Result<u32, Refusal> {
+        calls::link(self.sizes, &mut self.words, &mut self.spare, &mut self.waiting, a, b).number()
+    }
+
+    /// Takes the link of two open runs away.
+    pub fn unlink(&mut self, a: Run, b: Run) -> Result<(), Refusal> {
+        calls::unlink(self.sizes, &mut self.words, a, b).number().map(drop)
+    }
+
+    /// Whether two open runs are linked.
+    pub fn ask(&self, a: Run, b: Run) -> Result<bool, Refusal> {
+        calls::ask(self.sizes, &self.words, a, b).number().map(|number| number == 1)
+    }
+
+    /// The reading of a set of open places.
+    pub fn reading(&self, places: &[u32]) -> Result<u32, Refusal> {
+        calls::reading(self.sizes, &self.words, places).number()
+    }
+}
