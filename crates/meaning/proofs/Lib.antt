@@ -28,3 +28,4 @@ pub mod Kept
 pub mod Empty
 pub mod EmptyDay
 pub mod Handing
+pub mod Order
