@@ -7,5 +7,6 @@ pub mod Pays
 pub mod Dense
 pub mod Histories
 pub mod Theorems
+pub mod Tables
 pub mod Example
 pub mod Sharp
