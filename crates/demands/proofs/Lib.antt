@@ -10,3 +10,4 @@ pub mod Theorems
 pub mod Tables
 pub mod Example
 pub mod Sharp
+pub mod Streams
