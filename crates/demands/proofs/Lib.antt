@@ -7,6 +7,7 @@ pub mod Pays
 pub mod Dense
 pub mod Histories
 pub mod Theorems
+pub mod Streams
+pub mod Tables
 pub mod Example
 pub mod Sharp
-pub mod Streams
