@@ -9,3 +9,4 @@ pub mod Histories
 pub mod Theorems
 pub mod Example
 pub mod Sharp
+pub mod Streams

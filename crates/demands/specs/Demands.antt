@@ -1,15 +1,17 @@
 -- Demands 2 and 3 as statements, over any calls from the empty day with n places and C cells; proofs/Theorems.antt proves each.
 use Prim.Native.Nat.{ℕ, _+_, _-_, _*_, _/_, _≤_}
 use mathlib.Core.Bool.{false, _||_}
-use mathlib.Core.List.{List}
+use mathlib.Core.List.{List, map}
 use mathlib.Core.Path.{_≡_}
 use lib.ListN.{length}
 use Rattle.terms.specs.declared.run.Run.{Run}
 use Rattle.terms.specs.declared.refusal.Refusal.the-variants.{TooDense}
 use Rattle.terms.specs.declared.refusal.Answer.the-variants.{Refused}
+use Rattle.record.specs.declared.Record.{Record}
 use Rattle.meaning.specs.Cells.{list}
 use Rattle.meaning.specs.Day.{Day, emptyDay}
 use Rattle.meaning.specs.Calls.{Call, link, call, yes1}
+use Rattle.meaning.specs.Stream.{callOf, Progress, carryAll}
 use Rattle.meaning.proofs.Right.{Right}
 use Rattle.demands.specs.History.{after, joins, parts, related, joinings, partings, asked, accepted, reversals, Directions, DirectedWith, disagree, History, calls, AllDirected, changes, final}
 
@@ -57,3 +59,11 @@ Demand3From = (n D d : ℕ) → 2 * d ≤ D → (s : Day) → Right n D s → (C
     → let k : ℕ = accepted D s (calls h) in
     let r : ℕ = changes D s C h in
     reversals D s (calls h) * (D + 1 - 2 * d) + disagree (final C h) (after D s (calls h)) * (D + 1) ≤ (k + r + disagree C s) * (D + 1)
+
+-- records of a stream count as calls: the day that a stream leaves, and what it adds to the totals, are those of its records' calls
+-- in turn, so every statement above speaks of streams too
+abbrev pub RecordsAreCalls : Type 0
+RecordsAreCalls = (D : ℕ) (rs : List Record) (p : Progress)
+    → (carryAll D rs p .day ≡ after D (p .day) (map callOf rs))
+    × (carryAll D rs p .accepted ≡ p .accepted + accepted D (p .day) (map callOf rs))
+    × (carryAll D rs p .reversals ≡ p .reversals + reversals D (p .day) (map callOf rs))

@@ -30,3 +30,4 @@ pub mod Empty
 pub mod EmptyDay
 pub mod Handing
 pub mod Numbers
+pub mod Order

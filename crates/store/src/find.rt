@@ -29,13 +29,13 @@ pub fn free_place(store: &[u32], n: usize, c: usize) -> usize
     requires { ⌜ Within n c (now store) ⌝ }
     ensures { λ r. ⌜ (r ≡ lowest (dayOf n c (now (store .entry)))) × (r ≤ n) ⌝ }
 {
-    let mut v: usize = 0;
-    while v < n {
-        let line = section::line(store, n, c, v);
+    let mut lowest: usize = 0;
+    while lowest < n {
+        let line = section::line(store, n, c, lowest);
         if line == 0 {
-            return v;
+            return lowest;
         }
-        v += 1;
+        lowest += 1;
     }
     n
 }

@@ -7,10 +7,10 @@ use Rattle.store.proofs.find.free_place.Statement.{statement}
 use Rattle.store.proofs.find.free_place.Tie as tie
 
 abbrev Inv-loop : tie.InvT-loop
-Inv-loop store n c v₀ v = Taken n c store v
+Inv-loop store n c lowest₀ lowest = Taken n c store lowest
 
 abbrev μ-loop : tie.MeasureT-loop
-μ-loop store n c v₀ v = n - v
+μ-loop store n c lowest₀ lowest = n - lowest
 
 loop-holds : tie.Need-loop-holds Inv-loop μ-loop
 loop-holds c = taken-start _ _ _
@@ -21,8 +21,8 @@ line-requires c κs = search needs
 returns : tie.Need-returns Inv-loop μ-loop
 returns c = (free-here _ _ _ _ _ (c .before .before .before .loop .inv) (c .before .before .loop-test .taken) (c .before .line .ensures .0) (c .if1 .taken), omega arith)
 
-add-v : tie.Need-add-v Inv-loop μ-loop
-add-v c = search needs
+add-lowest : tie.Need-add-lowest Inv-loop μ-loop
+add-lowest c = search needs
 
 loop-less : tie.Need-loop-less Inv-loop μ-loop
 loop-less c = search needs
@@ -42,7 +42,7 @@ free-place-spec =
     loop-holds
     line-requires
     returns
-    add-v
+    add-lowest
     loop-less
     loop-again
     returns-2)
