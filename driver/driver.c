@@ -329,9 +329,20 @@ static uint64_t digest_number(uint64_t digest, uint64_t value, int size)
     return digest;
 }
 
+#define DIGEST_BASIS UINT64_C(0xcbf29ce484222325)
+
+static uint64_t digest_bytes(void)
+{
+    uint64_t digest = DIGEST_BASIS;
+    size_t i;
+    for (i = 0; i < bytes_len; i++)
+        digest = digest_number(digest, bytes[i], 1);
+    return digest;
+}
+
 static uint64_t digest_all(void)
 {
-    uint64_t digest = UINT64_C(0xcbf29ce484222325);
+    uint64_t digest = DIGEST_BASIS;
     size_t i;
     int t;
     for (t = 0; t < TABLES; t++) {
@@ -391,12 +402,11 @@ static uint64_t reading(struct text rest)
 
 static uint64_t stream(void)
 {
-#if WS_HAS_STREAM
-    return ws_stream(n, c, d, LENT(STORE), LENT(SPARE), LENT(WAITING), bytes, bytes_len, LENT(ANSWERS), &totals);
-#else
-    failed("the library has no stream");
-    return 0;
-#endif
+    uint64_t before = digest_bytes();
+    uint64_t result = ws_stream(n, c, d, LENT(STORE), LENT(SPARE), LENT(WAITING), bytes, bytes_len, LENT(ANSWERS), &totals);
+    if (digest_bytes() != before)
+        failed("the call wrote to the stream's bytes");
+    return result;
 }
 
 /* Calls on one run, on two, and without any. False where no call has the name. */

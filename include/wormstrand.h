@@ -21,17 +21,15 @@
  *
  * What a caller gets
  *   Each call returns its refusal times 2^32 plus its number: ws_refusal and ws_number take the two apart.
- *   A refused call has number 0 and leaves every table as it was; the one exception is refusal 9 of ws_link, which leaves
- *   the store as it was, and spare and waiting as an accepted link that began turning does.
+ *   A refused call has number 0 and leaves every table as it was, with two exceptions. Refusal 9 of ws_link leaves the store as
+ *   it was, and spare and waiting as an accepted link that began turning does. Refusals 11 to 13 stop ws_stream: the records
+ *   before stand, and the number says how many they are.
  */
 #ifndef WORMSTRAND_H
 #define WORMSTRAND_H
 
 #include <stddef.h>
 #include <stdint.h>
-
-/* 1 where the archive has ws_stream. */
-#define WS_HAS_STREAM 0
 
 #ifdef __cplusplus
 extern "C" {
@@ -62,7 +60,7 @@ static inline uint32_t ws_refusal(uint64_t result)
     return (uint32_t)(result >> 32);
 }
 
-/* The number of a result, 0 where the call is refused. */
+/* The number of a result, 0 where a single call is refused. */
 static inline uint32_t ws_number(uint64_t result)
 {
     return (uint32_t)(result & 0xffffffffu);
@@ -112,7 +110,6 @@ typedef struct {
     uint64_t reversals; /* of accepted links */
 } ws_totals;
 
-#if WS_HAS_STREAM
 /*
  * Carries out the records of a day, 15 bytes each and at most 983,025 bytes, as the single calls in turn. Each record carried
  * out writes its refusal and its number to two words of answers, in order; answers has at least 2 words for each 15 bytes, and
@@ -123,7 +120,6 @@ typedef struct {
 uint64_t ws_stream(size_t n, size_t c, size_t d, uint32_t *store, size_t store_len, uint32_t *spare, size_t spare_len,
                    uint32_t *waiting, size_t waiting_len, const uint8_t *bytes, size_t bytes_len, uint32_t *answers,
                    size_t answers_len, ws_totals *totals);
-#endif
 
 #ifdef __cplusplus
 }

@@ -80,8 +80,6 @@ calls=0
 compare reads 1 300000
 compare writes 2 300000
 compare links 3 400000
-if grep -q '^#define WS_HAS_STREAM 1$' include/wormstrand.h; then
-    compare streams 4 20000
-    compare all 5 50000
-fi
+compare streams 4 50000
+compare all 5 100000
 echo "compare: $calls calls agree in all"

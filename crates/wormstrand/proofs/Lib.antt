@@ -2,3 +2,4 @@
 pub mod Packing
 pub mod Small
 pub mod Returning
+pub mod Streams

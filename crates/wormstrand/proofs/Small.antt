@@ -1,13 +1,13 @@
 -- Every number that a call returns is small: it leaves the refusal's half of a packed answer alone. Assumes nothing.
 use Prim.Native.Nat.{ℕ, _+_, _-_, _*_, _/_, _^_, _≤_, _<_}
 use mathlib.Core.Bool.{Bool, true, false, not}
-use mathlib.Core.List.{List, [], _∷_}
+use mathlib.Core.List.{List}
 use mathlib.Core.Option.{none}
-use mathlib.Core.Path.{_≡_, refl, sym, ap, _∙_}
+use mathlib.Core.Path.{_≡_}
 use native.Mathlib.Decide.{decLt}
 use native.Mathlib.Nat.{div-le-self, mul-le-mul}
 use native.Mathlib.Omega.{arith}
-use lib.Dec.{eqb, ltb}
+use lib.Dec.{ltb}
 use lib.ListN.{length}
 use borrow.Author.Tests.{not-false}
 use Rattle.terms.specs.Refusal.{valueOf}
@@ -16,99 +16,47 @@ use Rattle.terms.specs.declared.run.Run.{Run}
 use Rattle.terms.specs.declared.refusal.Answer.{Answer}
 use Rattle.terms.specs.declared.refusal.Answer.the-variants.{Done, Refused}
 use Rattle.terms.specs.declared.refusal.Refusal.the-variants.{Sizes, Unsound}
-use Rattle.meaning.specs.Cells.{Cell, Lists, list, push, sum, links, holds}
-use Rattle.meaning.specs.Turning.{Ending, settled, dense, turning}
-use Rattle.meaning.specs.Day.{Day, placeOf, lowest, dayOf}
+use Rattle.meaning.specs.Day.{dayOf}
 use Rattle.meaning.specs.Soundness.{Sound, Sized}
-use Rattle.meaning.specs.Calls.{Call, openRun, closeRun, link, unlink, ask, reading, Outcome, done, linked, tests, firstRefusal, ended, linkIn, doLink, doUnlink, cut, yes1, rising, inSet, inside, act, call}
+use Rattle.meaning.specs.Calls.{Call, openRun, closeRun, link, unlink, ask, reading, Outcome, tests, firstRefusal, rising, inSet, inside, act, call}
 use Rattle.meaning.specs.Promise.{Promise, EmptyPromise, Lent, LinkPromise}
-use Rattle.meaning.proofs.Crossing.{sound-right}
-use Rattle.meaning.proofs.Effects.{free-length}
-use Rattle.meaning.proofs.Finding.{Failed, all-failed, Both, either-false}
-use Rattle.meaning.proofs.Kept.{joined, run, link-run, new-link, call-case}
-use Rattle.meaning.proofs.Lists.{first-most}
-use Rattle.meaning.proofs.Right.{Right, outside}
-use Rattle.meaning.proofs.Sums.{push-sum, push-length, sum-le}
-use Rattle.meaning.proofs.Threaded.{sound-threaded, length-most}
-use Rattle.meaning.proofs.Turnings.{Ends, stands-start, turning-few, begun, begun-waits}
-use Rattle.meaning.proofs.Waiting.{none-waits}
+use Rattle.meaning.proofs.Finding.{Failed, all-failed, either-false}
+use Rattle.meaning.proofs.Kept.{call-case}
+use Rattle.meaning.proofs.Sums.{sum-le}
+use Rattle.meaning.proofs.Threaded.{sound-threaded}
 use Rattle.store.proofs.Joining.{links-count}
 use Rattle.store.proofs.Rising.{in-once}
+use Rattle.stream.proofs.Carrying.{number-small}
 use Rattle.wormstrand.specs.Pack.{Small}
 
--- an answer that is refused with no number, or done with a small one
+-- an answer is small where one that is the same is
 of-small : (a b : Answer) → a ≡ b → Small b → Small a
 of-small a b e h = rw e h
 
 module _ (n C D : ℕ) (w : List ℕ) (s : Sound n C D w) where
-  ok : Right n D (dayOf n C w)
-  ok = sound-right n C D w s
-
-  -- a cell is in a list or free
-  cells-all : links (dayOf n C w .lists) + length (dayOf n C w .free) ≡ C
-  cells-all =
-      omega (arith, links-count n C w (sound-threaded n C D w s), length-most n C w (sound-threaded n C D w s) n (omega arith), free-length n C w)
-
-  -- a link takes a free cell, so there are at most C links, and as many lists are turned
-  link-few : (u v i : ℕ) → u < n → v < n → Ends (λ ls st r. r ≤ 0 + links (joined (dayOf n C w) u v i) * links (joined (dayOf n C w) u v i)) (run D (dayOf n C w) u v i)
-  link-few u v i hu hv =
-      let c : Cell = record { index = i; target = v } in
-      let ls : Lists = joined (dayOf n C w) u v i in
-      turning-few n D (links ls) ls ls (begun D ls u) 0
-      (stands-start n D ls (begun D ls u) (push-length (dayOf n C w .lists) u c ∙ ok .rows)
-      (omega (arith, ok .inside, ok .rows, push-sum (outside n) (dayOf n C w .lists) u c (omega (arith, ok .rows))))
-      (begun-waits D (dayOf n C w .lists) u c (omega (arith, ok .rows)) (none-waits D (dayOf n C w .lists) (ok .short))))
-
-  link-small : (u v : ℕ) → u < n → v < n → (fs : List ℕ) → length fs ≡ length (dayOf n C w .free) → Small (doLink D (dayOf n C w) u v fs .answer)
-  link-small u v hu hv [] e = omega arith
-  link-small u v hu hv (i ∷ fs) e = link-run (λ a s'. Small a) D (dayOf n C w) u v i fs (go (run D (dayOf n C w) u v i) (link-few u v i hu hv))
-    where
-      m : ℕ
-      m = links (joined (dayOf n C w) u v i)
-
-      most : m ≤ 16384
-      most = omega (arith, cells-all, s .sized .room .cells-most, push-sum (λ v c. 1) (dayOf n C w .lists) u (record { index = i; target = v }) (omega (arith, ok .rows)))
-
-      go : (o : Ending) → Ends (λ ls st r. r ≤ 0 + m * m) o → Small (ended (dayOf n C w) fs o .answer)
-      go (settled ls r) h = omega (arith, mul-le-mul most most)
-      go dense h = omega arith
-
-  unlink-small : (u v : ℕ) → Small (doUnlink (dayOf n C w) u v .answer)
-  unlink-small u v = go (holds v (list (dayOf n C w .lists) u))
-    where
-      go : (b : Bool) → let o : Outcome = elim b [ true ↦ done 0 (cut (dayOf n C w) u v) | false ↦ done 0 (cut (dayOf n C w) v u) ] in Small (o .answer)
-      go true = omega arith
-      go false = omega arith
-
-  -- a rising set has each place once, so no link counts twice
+  -- a rising set has each place once, so no link counts twice, and there are at most C links
   reading-small : (ps : List ℕ) → rising ps ≡ true → inside (dayOf n C w) ps / (length ps - 1) < 2 ^ 32
   reading-small ps r =
       omega (
         arith,
-        cells-all,
+        links-count n C w (sound-threaded n C D w s),
         s .sized .room .cells-most,
         div-le-self (inside (dayOf n C w) ps) (length ps - 1),
         sum-le (λ v c. inSet ps v * inSet ps (c .target)) (λ v c. 1) (dayOf n C w .lists) (λ v c. mul-le-mul (in-once v ps r) (in-once (c .target) ps r)),
       )
 
-  yes-small : (b : Bool) → yes1 b < 2 ^ 32
-  yes-small true = omega arith
-  yes-small false = omega arith
-
-  act-small : (q : Call) → firstRefusal (tests (dayOf n C w) q) ≡ none → Small (act D (dayOf n C w) q .answer)
-  act-small (openRun p) e = omega (arith, first-most (λ r. eqb (r .line) 0) (dayOf n C w .runs), ok .places, s .sized .room .places-most)
-  act-small (closeRun p) e = omega arith
-  act-small (link p q) e =
-      let t = new-link n D (dayOf n C w) ok p q e in
-      link-small (placeOf (dayOf n C w) p) (placeOf (dayOf n C w) q) (t .0 .place-p) (t .0 .place-q) (dayOf n C w .free) refl
-  act-small (unlink p q) e = unlink-small (placeOf (dayOf n C w) p) (placeOf (dayOf n C w) q)
-  act-small (ask p q) e = yes-small (linked (dayOf n C w) (placeOf (dayOf n C w) p) (placeOf (dayOf n C w) q))
-  act-small (reading ps) e =
+  act-reading : (ps : List ℕ) → firstRefusal (tests (dayOf n C w) (reading ps)) ≡ none → Small (act D (dayOf n C w) (reading ps) .answer)
+  act-reading ps e =
       let f : Failed (tests (dayOf n C w) (reading ps)) = all-failed (tests (dayOf n C w) (reading ps)) e in
       reading-small ps (not-false (rising ps) (either-false (ltb (length ps) 2) (not (rising ps)) (f .0) .1))
 
   pub call-small : (q : Call) → Small (call D (dayOf n C w) q .answer)
-  call-small q = call-case (λ o. Small (o .answer)) D (dayOf n C w) q (λ why e. omega arith) (act-small q)
+  call-small (openRun p) = number-small n C D w s (openRun p) tt
+  call-small (closeRun p) = number-small n C D w s (closeRun p) tt
+  call-small (link p q) = number-small n C D w s (link p q) tt
+  call-small (unlink p q) = number-small n C D w s (unlink p q) tt
+  call-small (ask p q) = number-small n C D w s (ask p q) tt
+  call-small (reading ps) = call-case (λ o. Small (o .answer)) D (dayOf n C w) (reading ps) (λ why e. omega arith) (act-reading ps)
 
 -- ---- what a call promises has a small number; where it is not small no case of the promise is left
 

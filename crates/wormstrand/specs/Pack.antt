@@ -1,9 +1,14 @@
 -- How an answer comes back to a caller from C or Rust: one number of 64 bits.
 use Prim.Native.Nat.{ℕ, _+_, _*_, _^_, _<_}
+use mathlib.Core.List.{List}
+use mathlib.Core.Option.{Option, none, some}
 use mathlib.Core.Path.{_≡_}
-use Rattle.terms.specs.Refusal.{refusalOf, valueOf}
+use lib.ListN.{getD}
+use Rattle.terms.specs.Refusal.{numberOf, refusalOf, valueOf}
 use Rattle.terms.specs.declared.run.Run.{Run}
+use Rattle.terms.specs.declared.refusal.Refusal.{Refusal}
 use Rattle.terms.specs.declared.refusal.Answer.{Answer}
+use Rattle.meaning.specs.Promise.{Tables, Result}
 
 -- a run named by two words
 abbrev pub named : ℕ → ℕ → Run
@@ -23,3 +28,22 @@ pub record Packed (P : Answer → Type 0) (r : ℕ) : Type 0 where
   pub small : Small answer
   pub packed : r ≡ pack answer
   pub holds : P answer
+
+-- a stream's refusal, 0 at the end of the bytes, and the number of records carried out
+abbrev pub stopNumber : Option Refusal → ℕ
+stopNumber none = 0
+stopNumber (some why) = numberOf why
+
+abbrev pub packResult : Result → ℕ
+packResult r = stopNumber (r .stop) * 2 ^ 32 + r .carried
+
+pub record PackedResult (P : Result → Type 0) (r : ℕ) : Type 0 where
+  pub result : Result
+  pub small : result .carried < 2 ^ 32
+  pub packed : r ≡ packResult result
+  pub holds : P result
+
+-- the tables lent to a stream, with its two totals in a row: accepted links, then reversals
+abbrev pub lent : List ℕ → List ℕ → List ℕ → List ℕ → List ℕ → Tables
+lent store spare waiting answers totals =
+    record { store = store; spare = spare; waiting = waiting; answers = answers; accepted = getD totals 0 0; reversals = getD totals 1 0 }

@@ -1,9 +1,14 @@
 // The calls for programs in C and Rust, under the names that include/wormstrand.h declares. Each passes on a public call and packs
 // its answer; it judges nothing and knows no table.
+ghost use Prim.Native.Nat.{_^_, _<_};
 ghost use mathlib.Core.Path.{_≡_};
 ghost use Rattle.meaning.specs.Calls.{openRun, closeRun, unlink, ask, reading};
-ghost use Rattle.meaning.specs.Promise.{Promise, EmptyPromise, LinkPromise};
-ghost use Rattle.wormstrand.specs.Pack.{named, pack, Packed};
+ghost use Rattle.meaning.specs.Promise.{Promise, EmptyPromise, LinkPromise, StreamPromise};
+ghost use Rattle.stream.specs.Streamed.{resultOf};
+ghost use Rattle.wormstrand.specs.Pack.{named, pack, Packed, packResult, PackedResult, lent};
+use stream::Stop;
+use stream::Streamed;
+use stream::totals::Totals;
 use terms::refusal::Answer;
 use terms::run::Run;
 
@@ -134,4 +139,41 @@ pub extern "C" fn ws_reading(n: usize, c: usize, d: usize, store: &[u32], places
     ensures { λ r. ⌜ Packed (λ a. Promise n c d (reading (now (places .entry))) (now (store .entry)) a (now (store .entry))) r ⌝ }
 {
     pack(calls::reading(n, c, d, store, places))
+}
+
+// A stream that was stopped has both, a refusal and a number.
+fn pack_result(streamed: Streamed) -> u64
+    requires { ⌜ streamed .carried < 2 ^ 32 ⌝ }
+    ensures { λ r. ⌜ r ≡ packResult (resultOf streamed) ⌝ }
+{
+    let stop = streamed.stop;
+    match stop {
+        Stop::End => streamed.carried as u64,
+        Stop::At(why) => why.number() * NUMBERS + streamed.carried as u64,
+    }
+}
+
+// C's struct of two totals is two words in a row.
+#[no_mangle]
+pub extern "C" fn ws_stream(
+    n: usize,
+    c: usize,
+    d: usize,
+    store: &mut [u32],
+    spare: &mut [u32],
+    waiting: &mut [u32],
+    bytes: &[u8],
+    answers: &mut [u32],
+    totals: &mut [u64; 2],
+) -> u64
+    ensures { λ r. ⌜ PackedResult (λ a. StreamPromise n c d (now (bytes .entry)) (lent (now (store .entry)) (now (spare .entry)) (now (waiting .entry)) (now (answers .entry)) (now (totals .entry))) a (lent (now (store .exit)) (now (spare .exit)) (now (waiting .exit)) (now (answers .exit)) (now (totals .exit)))) r ⌝ }
+{
+    let before = Totals {
+        accepted: totals[0],
+        reversals: totals[1],
+    };
+    let streamed = stream::stream(n, c, d, store, spare, waiting, bytes, answers, before);
+    let after = streamed.totals;
+    *totals = [after.accepted, after.reversals];
+    pack_result(streamed)
 }

@@ -1,7 +1,7 @@
 //! The calls on tables that the caller lends.
 //!
-//! A refused call leaves every table as it was; the one exception is `TooDense`, which leaves the store as it was, and spare and
-//! waiting as an accepted link that began turning does.
+//! A refused call leaves every table as it was, with two exceptions. `TooDense` leaves the store as it was, and spare and waiting
+//! as an accepted link that began turning does. `WrongMark`, `WrongKind` and `CutShort` stop a stream, and the records before stand.
 
 // What the library asks of its caller is that no pointer is null, each is aligned and leads to as many words as its length says,
 // and the tables of one call do not overlap. Slices have all of that, so every function here is safe.
@@ -9,6 +9,7 @@
 use crate::foreign;
 use crate::outcome::Outcome;
 use crate::sizes::{Run, Sizes};
+use crate::stream::{Streamed, Totals};
 
 /// Writes the store with no run and no link over whatever the table holds. The limit plays no part. Number: 0.
 pub fn empty(sizes: Sizes, store: &mut [u32]) -> Outcome {
@@ -85,5 +86,40 @@ pub fn reading(sizes: Sizes, store: &[u32], places: &[u32]) -> Outcome {
     let Sizes { n, c, d } = sizes;
     Outcome::unpack(unsafe {
         foreign::ws_reading(n, c, d, store.as_ptr(), store.len(), places.as_ptr(), places.len())
+    })
+}
+
+/// Carries out the records of a day, 15 bytes each and at most 983,025 bytes, as the single calls in turn.
+///
+/// Each record carried out writes its refusal and its number to two words of answers, which has at least two for each 15 bytes;
+/// other words there stay. The totals are brought forward in place. Spare and waiting hold what the last link that began turning
+/// left, or stay as they were.
+pub fn stream(
+    sizes: Sizes,
+    store: &mut [u32],
+    spare: &mut [u32],
+    waiting: &mut [u32],
+    bytes: &[u8],
+    answers: &mut [u32],
+    totals: &mut Totals,
+) -> Streamed {
+    let Sizes { n, c, d } = sizes;
+    Streamed::unpack(unsafe {
+        foreign::ws_stream(
+            n,
+            c,
+            d,
+            store.as_mut_ptr(),
+            store.len(),
+            spare.as_mut_ptr(),
+            spare.len(),
+            waiting.as_mut_ptr(),
+            waiting.len(),
+            bytes.as_ptr(),
+            bytes.len(),
+            answers.as_mut_ptr(),
+            answers.len(),
+            totals,
+        )
     })
 }

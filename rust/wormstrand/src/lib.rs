@@ -23,8 +23,10 @@ mod outcome;
 mod refusal;
 mod sizes;
 mod store;
+mod stream;
 
 pub use outcome::Outcome;
 pub use refusal::Refusal;
 pub use sizes::{Run, Sizes};
 pub use store::Store;
+pub use stream::{Day, Streamed, Totals};

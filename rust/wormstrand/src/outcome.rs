@@ -11,14 +11,27 @@ pub enum Outcome {
     Refused(Refusal),
 }
 
+/// The refusal and the number of a result: the library returns the refusal times 2^32 plus the number.
+pub(crate) fn halves(result: u64) -> (Option<Refusal>, u32) {
+    (named((result >> 32) as u32), result as u32)
+}
+
+fn named(refusal: u32) -> Option<Refusal> {
+    match refusal {
+        0 => None,
+        _ => Some(Refusal::of(refusal).expect("the library's refusals are numbered 1 to 14")),
+    }
+}
+
 impl Outcome {
-    /// The library returns the refusal times 2^32 plus the number.
     pub(crate) fn unpack(result: u64) -> Outcome {
-        let (refusal, number) = ((result >> 32) as u32, result as u32);
-        if refusal == 0 {
-            return Outcome::Done(number);
-        }
-        Outcome::Refused(Refusal::of(refusal).expect("the library's refusals are numbered 1 to 14"))
+        let (refusal, number) = halves(result);
+        refusal.map_or(Outcome::Done(number), Outcome::Refused)
+    }
+
+    /// The outcome that two answer words say.
+    pub(crate) fn of(refusal: u32, number: u32) -> Outcome {
+        named(refusal).map_or(Outcome::Done(number), Outcome::Refused)
     }
 
     /// The number of a call that is done.
@@ -39,10 +52,9 @@ mod tests {
         assert_eq!(Outcome::unpack(0), Outcome::Done(0));
         assert_eq!(Outcome::unpack(u64::from(u32::MAX)), Outcome::Done(u32::MAX));
         for refusal in Refusal::ALL {
-            assert_eq!(
-                Outcome::unpack(u64::from(refusal.number()) << 32),
-                Outcome::Refused(refusal)
-            );
+            let result = u64::from(refusal.number()) << 32;
+            assert_eq!(Outcome::unpack(result), Outcome::Refused(refusal));
+            assert_eq!(halves(result + 7), (Some(refusal), 7));
         }
     }
 }

@@ -3,6 +3,10 @@
 use crate::calls;
 use crate::refusal::Refusal;
 use crate::sizes::{Run, Sizes};
+use crate::stream::{Day, Totals};
+
+/// The bytes of a record.
+const RECORD_BYTES: usize = 15;
 
 /// A store that owns its tables, all of the lengths that its sizes ask for.
 #[derive(Clone, Debug, PartialEq, Eq)]
@@ -72,5 +76,14 @@ impl Store {
     /// The reading of a set of open places.
     pub fn reading(&self, places: &[u32]) -> Result<u32, Refusal> {
         calls::reading(self.sizes, &self.words, places).number()
+    }
+
+    /// Carries out a day's records and brings the totals forward. Where the bytes or the totals are too large, `Sizes` stops it
+    /// and nothing is carried out.
+    pub fn stream(&mut self, bytes: &[u8], totals: &mut Totals) -> Day {
+        let mut answers = vec![0; 2 * (bytes.len() / RECORD_BYTES)];
+        let Store { sizes, words, spare, waiting } = self;
+        let streamed = calls::stream(*sizes, words, spare, waiting, bytes, &mut answers, totals);
+        Day::read(streamed, &answers)
     }
 }

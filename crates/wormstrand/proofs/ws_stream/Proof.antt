@@ -1,0 +1,47 @@
+-- `wormstrand::ws_stream` meets its contract: the stream promises a result, its packing is returned and its totals are written back.
+-- Assumes nothing.
+use Rattle.wormstrand.proofs.Streams.{carried-small, result-packed}
+use borrow.Author.Needs.{needs}
+use Rattle.wormstrand.proofs.ws_stream.Statement.{statement}
+use Rattle.wormstrand.proofs.ws_stream.Tie as tie
+
+element-copy-out-t15 : tie.Need-element-copy-out-t15
+element-copy-out-t15 c = search needs
+
+element-copy-out-t18 : tie.Need-element-copy-out-t18
+element-copy-out-t18 c = search needs
+
+stream-requires : tie.Need-stream-requires
+stream-requires c κs = search needs
+
+pack-result-requires : tie.Need-pack-result-requires
+pack-result-requires c κs = carried-small _ _ _ _ _ _ _ (c .before .before .before .before .before .before .before .before .before .before .stream .ensures)
+
+same-length : tie.Need-same-length
+same-length c = search needs
+
+same-length-2 : tie.Need-same-length-2
+same-length-2 c = search needs
+
+same-length-3 : tie.Need-same-length-3
+same-length-3 c = search needs
+
+same-length-4 : tie.Need-same-length-4
+same-length-4 c = search needs
+
+returns : tie.Need-returns
+returns c = result-packed _ _ _ _ _ _ _ _ (c .before .before .before .before .before .before .before .before .before .before .before .before .before .before .before .before .before .before .before .before .before .before .before .args .totals .now) (c .before .before .before .before .before .before .before .before .before .before .before .stream .result) _ _ _ _ _ (c .before .before .before .before .before .before .before .before .before .before .before .stream .ensures) (c .pack-result .ensures)
+
+pub ws-stream-spec : {M : Type 1} → statement M
+ws-stream-spec =
+    tie.close
+    (tie.spec
+    element-copy-out-t15
+    element-copy-out-t18
+    stream-requires
+    pack-result-requires
+    same-length
+    same-length-2
+    same-length-3
+    same-length-4
+    returns)
