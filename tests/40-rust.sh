@@ -1,5 +1,5 @@
 #!/usr/bin/env bash
-# The library from C and from Rust: the C example, then the Rust crate's tests, document 01's p1 to p10 among them, and its example.
+# The library from C and from Rust: the C example and the README's program, then the Rust crate's tests, document 01's p1 to p10 among them, and its example.
 set -euo pipefail
 cd "$(dirname "${BASH_SOURCE[0]}")/.."
 . tests/library.sh
@@ -8,7 +8,10 @@ work=target/examples
 mkdir -p "$work"
 "${compile[@]}" examples/ask.c -o "$work/ask" "$archive"
 "${emulate[@]}" "$work/ask" | diff - examples/ask.out
-echo "rust: the C example agrees"
+sed -n '/^```c$/,/^```$/p' README.md | sed '1d;$d' > "$work/related.c"
+"${compile[@]}" "$work/related.c" -o "$work/related" "$archive"
+"${emulate[@]}" "$work/related" | diff - <(echo "related: 1")
+echo "rust: the C example and the README's program agree"
 
 # On another machine cargo needs Rust's standard library for x86-64 (`rustup target add x86_64-unknown-linux-gnu`).
 target=x86_64-unknown-linux-gnu
@@ -22,7 +25,7 @@ if [ "$(uname -m)" != x86_64 ]; then
 fi
 
 export CARGO_TARGET_DIR="$PWD/target/rust"
-cargo=(--quiet --release --offline --target "$target" --manifest-path rust/wormstrand/Cargo.toml)
+cargo=(--quiet --release --offline --target "$target" --manifest-path bindings/rust/Cargo.toml)
 cargo test "${cargo[@]}"
-cargo run "${cargo[@]}" --example connections | diff - rust/wormstrand/examples/connections.out
+cargo run "${cargo[@]}" --example connections | diff - bindings/rust/examples/connections.out
 echo "rust: the Rust example agrees"
