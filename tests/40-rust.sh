@@ -1,5 +1,6 @@
 #!/usr/bin/env bash
-# The library from C and from Rust: the C example and the README's program, then the Rust crate's tests, document 01's p1 to p10 among them, and its example.
+# The library from C and from Rust: the C example and the README's program, then the Rust crate's tests, document 01's p1 to p10
+# among them, and its example.
 set -euo pipefail
 cd "$(dirname "${BASH_SOURCE[0]}")/.."
 . tests/library.sh

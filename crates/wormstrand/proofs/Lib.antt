@@ -1,5 +1,7 @@
--- Laws of packed answers: none is lost, and every number that a call returns is small.
+-- Laws of packed answers: none is lost, every number that a call returns is small, and a contract allows one outcome.
 pub mod Packing
 pub mod Small
 pub mod Returning
 pub mod Streams
+pub mod Tight
+pub mod TightStream
