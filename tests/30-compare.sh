@@ -74,7 +74,42 @@ refuse_wrong_lines() {
     done < tests/scripts/wrong.txt
 }
 
+# Six runs, D = 2, all fifteen pairs in ORDERS orders, each pair named either way round, and every table shown at the end.
+make_six() { # ORDERS
+    awk -v orders="$1" '
+        function below(k) { seed = seed * 16807 % 2147483647; return seed % k }
+        BEGIN {
+            seed = 12
+            for (a = 2; a <= 6; a++) for (b = 1; b < a; b++) pair[++pairs] = a " " b
+            while (orders-- > 0) {
+                print "sizes 6 15 2\nstore 0*71\nspare 0*71\nwaiting 0*6\nempty"
+                for (a = 1; a <= 6; a++) print "open 1 " a
+                for (i = pairs; i > 0; i--) {
+                    j = 1 + below(i); held = pair[i]; pair[i] = pair[j]; pair[j] = held
+                    split(pair[i], end); first = 1 + below(2)
+                    print "link 1 " end[first] " 1 " end[3 - first]
+                }
+                print "show"
+            }
+        }'
+}
+
+# Each order takes at most twelve of the fifteen, some order twelve, and what is not taken is too dense.
+hold_six() { # ORDERS
+    awk -v orders="$1" '
+        /^link 0 / { taken += 1 }
+        /^link/ && $2 != 0 && $2 != 9 { print "compare: six: " $0; bad = 1 }
+        /^store:/ { if (taken > 12) bad = 1; if (taken > most) most = taken; taken = 0; seen += 1 }
+        END {
+            if (bad || most != 12 || seen != orders) { print "compare: six: " seen + 0 " orders, at most " most + 0 " links taken"; exit 1 }
+        }' "$work/six.library" >&2
+}
+
 agree examples tests/scripts/examples.txt
+make_six 2000 > "$work/six.txt"
+agree six "$work/six.txt"
+hold_six 2000
+echo "compare: six runs: 2000 orders agree"
 refuse_wrong_lines
 calls=0
 compare reads 1 300000
