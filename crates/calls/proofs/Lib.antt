@@ -1,3 +1,2 @@
 -- Laws for the public calls.
 pub mod Promising
-pub mod Tight

@@ -13,8 +13,7 @@ use Rattle.meaning.specs.Calls.{Call, openRun, closeRun, link, unlink, ask, rea
 use Rattle.meaning.proofs.Right.{Right}
 use Rattle.meaning.proofs.Finding.{either-false}
 use Rattle.meaning.proofs.Kept.{call-right, call-case}
-use Rattle.demands.specs.History.{after, accepts, samePair, joins, parts, related, joinings, partings, asked, taken, reversed, accepted, reversals, between, changed, disagree, calls, changes, final}
-use Rattle.demands.specs.Demands.{Demand3From}
+use Rattle.demands.specs.History.{after, accepts, samePair, joins, parts, related, joinings, partings, asked, taken, reversed, accepted, reversals, between, changed, disagree, calls, changes, final, Directions, History, AllDirected}
 use Rattle.demands.proofs.Choices.{yes-le, yes-pair-swaps}
 use Rattle.demands.proofs.Law.{call-law, comes-pair, goes-pair}
 use Rattle.demands.proofs.Asking.{asked-between}
@@ -105,7 +104,10 @@ bounds-join D d R k r b b' R' k' r' b'' h h' = sums (D + 1) (D + 1 - 2 * d) h h'
     sums : (N E : ℕ) → R * E + b' * N ≤ (k + r + b) * N → R' * E + b'' * N ≤ (k' + r' + b') * N → (R + R') * E + b'' * N ≤ (k + k' + (r + r') + b) * N
     sums N E h h' = simp add-mul (omega (arith, simp add-mul at h, simp add-mul at h'))
 
-pub demand-3-from : Demand3From
+-- the bound from any right day, some of whose links may disagree with the choice C there; what disagrees at the end is still to be
+-- paid for, so that histories can be joined
+pub demand-3-from : (n D d : ℕ) → 2 * d ≤ D → (s : Day) → Right n D s → (C : Directions) (h : History) → AllDirected d D s h
+    → Bounds D d (reversals D s (calls h)) (accepted D s (calls h)) (changes D s C h) (disagree C s) (disagree (final C h) (after D s (calls h)))
 demand-3-from n D d half s ok C [] g = omega arith
 demand-3-from n D d half s ok C (x ∷ h) g =
     let s' : Day = call D s (x .0) .after in

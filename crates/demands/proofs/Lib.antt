@@ -1,4 +1,6 @@
--- The proofs of demands 2 and 3.
+-- The proofs of the demands, and how tight the contracts are.
+pub mod Tight
+pub mod Refusals
 pub mod Choices
 pub mod Potential
 pub mod Law

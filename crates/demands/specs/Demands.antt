@@ -1,19 +1,55 @@
--- Demands 2 and 3 as statements, over any calls from the empty day with n places and C cells; proofs/Theorems.antt proves each.
+-- The demands as statements: demand 1 about the contracts of the public calls, demands 2 and 3 over any calls from the empty day
+-- with n places and C cells. proofs/Refusals.antt and proofs/Theorems.antt prove each.
 use Prim.Native.Nat.{ℕ, _+_, _-_, _*_, _/_, _≤_}
-use mathlib.Core.Bool.{false, _||_}
+use mathlib.Core.Bool.{Bool, false, _||_}
 use mathlib.Core.List.{List, map}
+use mathlib.Core.Option.{some}
 use mathlib.Core.Path.{_≡_}
+use lib.Dec.{eqb}
 use lib.ListN.{length}
+use Rattle.terms.specs.Refusal.{numberOf}
 use Rattle.terms.specs.declared.run.Run.{Run}
-use Rattle.terms.specs.declared.refusal.Refusal.the-variants.{TooDense}
+use Rattle.terms.specs.declared.refusal.Refusal.{Refusal}
+use Rattle.terms.specs.declared.refusal.Refusal.the-variants.{Unsound, TooDense}
 use Rattle.terms.specs.declared.refusal.Answer.the-variants.{Refused}
 use Rattle.record.specs.declared.Record.{Record}
+use Rattle.meaning.specs.Table.{written}
 use Rattle.meaning.specs.Cells.{list}
 use Rattle.meaning.specs.Day.{Day, emptyDay}
 use Rattle.meaning.specs.Calls.{Call, link, call, yes1}
-use Rattle.meaning.specs.Stream.{callOf, Progress, carryAll}
-use Rattle.meaning.proofs.Right.{Right}
-use Rattle.demands.specs.History.{after, joins, parts, related, joinings, partings, asked, accepted, reversals, Directions, DirectedWith, disagree, History, calls, AllDirected, changes, final}
+use Rattle.meaning.specs.Stream.{callOf, Progress, carry, carryAll}
+use Rattle.meaning.specs.Promise.{Promise, EmptyPromise, spareAfter, waitingAfter, LinkPromise, Tables, Result, StreamPromise}
+use Rattle.demands.specs.History.{after, joins, parts, related, joinings, partings, asked, accepted, reversals, Directions, DirectedWith, History, calls, AllDirected, changes}
+
+-- demand 1: a refused call leaves the store unchanged: open, close, unlink, ask and reading of a set
+abbrev pub CallRefused : Type 0
+CallRefused = (n C D : ℕ) (q : Call) (w w' : List ℕ) (why : Refusal) → Promise n C D q w (Refused why) w' → w' ≡ w
+
+abbrev pub EmptyRefused : Type 0
+EmptyRefused = (n C : ℕ) (w w' : List ℕ) (why : Refusal) → EmptyPromise n C w (Refused why) w' → w' ≡ w
+
+-- a refused link leaves spare and waiting too, but where it is too dense: then they are as after any link that began turning
+abbrev pub isDense : Refusal → Bool
+isDense why = eqb (numberOf why) (numberOf TooDense)
+
+abbrev pub LinkRefused : Type 0
+LinkRefused = (n C D : ℕ) (p q : Run) (w spare waiting w' spare' waiting' : List ℕ) (why : Refusal)
+    → LinkPromise n C D p q w spare waiting (Refused why) w' spare' waiting'
+    → (w' ≡ w) × (spare' ≡ spareAfter (isDense why) w spare) × (waiting' ≡ waitingAfter (isDense why) n waiting)
+
+-- a stream refused with 1 or 2 leaves every table, the answers and both totals, and carries nothing out
+abbrev pub StreamRefused : Type 0
+StreamRefused = (n C D : ℕ) (bytes : List ℕ) (t t' : Tables) (r : Result) (why : Refusal) → StreamPromise n C D bytes t r t'
+    → r .stop ≡ some why → numberOf why ≤ numberOf Unsound → (r .carried ≡ 0) × (t' ≡ t)
+
+-- a record refused in a stream leaves the day and both totals, and its two answer words are the refusal's number and 0
+abbrev pub RecordRefused : Type 0
+RecordRefused = (D : ℕ) (p : Progress) (r : Record) (why : Refusal) → call D (p .day) (callOf r) .answer ≡ Refused why
+    → (carry D p r .day ≡ p .day) × (carry D p r .accepted ≡ p .accepted) × (carry D p r .reversals ≡ p .reversals)
+    × (carry D p r .answers ≡ written (written (p .answers) (2 * p .carried) (numberOf why)) (2 * p .carried + 1) 0)
+
+abbrev pub Demand1 : Type 0
+Demand1 = CallRefused × EmptyRefused × LinkRefused × StreamRefused × RecordRefused
 
 -- demand 2: asking says yes exactly for the pairs accepted as links and not unlinked since
 abbrev pub Yes : Type 0
@@ -51,14 +87,6 @@ Demand3 = (n C D d : ℕ) → 2 * d ≤ D → (C₀ : Directions) (h : History) 
 abbrev pub NeverDense : Type 0
 NeverDense = (n C D : ℕ) (cs : List Call) (p q : Run) (X : Directions) → DirectedWith p q (D / 2) X (after D (emptyDay n C) cs)
     → call D (after D (emptyDay n C) cs) (link p q) .answer ≡ Refused TooDense → ⊥
-
--- demand 3 from any right day, some of whose links may already disagree with the choice C there; what disagrees at the end is
--- still to be paid for, so that histories can be joined
-abbrev pub Demand3From : Type 0
-Demand3From = (n D d : ℕ) → 2 * d ≤ D → (s : Day) → Right n D s → (C : Directions) (h : History) → AllDirected d D s h
-    → let k : ℕ = accepted D s (calls h) in
-    let r : ℕ = changes D s C h in
-    reversals D s (calls h) * (D + 1 - 2 * d) + disagree (final C h) (after D s (calls h)) * (D + 1) ≤ (k + r + disagree C s) * (D + 1)
 
 -- records of a stream count as calls: the day that a stream leaves, and what it adds to the totals, are those of its records' calls
 -- in turn, so every statement above speaks of streams too

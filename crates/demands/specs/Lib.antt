@@ -1,4 +1,4 @@
--- What a reader must believe of demands 2 and 3.
+-- What a reader must believe of the demands.
 pub mod History
 pub mod Demands
 pub mod Tables

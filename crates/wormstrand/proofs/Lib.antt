@@ -4,4 +4,3 @@ pub mod Small
 pub mod Returning
 pub mod Streams
 pub mod Tight
-pub mod TightStream

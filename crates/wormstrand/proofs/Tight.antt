@@ -1,13 +1,14 @@
--- Two outcomes that the contract of an exported call allows coincide: what it returns and every table. Assumes nothing.
+-- Two outcomes that the contract of an exported call allows coincide: what it returns, every table and, of a stream, both totals.
+-- Assumes nothing.
 use Prim.Native.Nat.{ℕ}
 use mathlib.Core.List.{List}
 use mathlib.Core.Path.{_≡_, sym, ap, _∙_}
 use Rattle.terms.specs.declared.run.Run.{Run}
 use Rattle.terms.specs.declared.refusal.Answer.{Answer}
 use Rattle.meaning.specs.Calls.{Call}
-use Rattle.meaning.specs.Promise.{Promise, EmptyPromise, LinkPromise}
-use Rattle.calls.proofs.Tight.{call-tight, empty-tight, link-tight}
-use Rattle.wormstrand.specs.Pack.{pack, Packed}
+use Rattle.meaning.specs.Promise.{Promise, EmptyPromise, LinkPromise, Tables, Result, StreamPromise}
+use Rattle.demands.proofs.Tight.{call-tight, empty-tight, link-tight, Same, stream-tight}
+use Rattle.wormstrand.specs.Pack.{pack, Packed, packResult, PackedResult}
 
 -- one answer has one packing
 one-return : (P Q : Answer → Type 0) (r r' : ℕ) (p : Packed P r) (q : Packed Q r') → p .answer ≡ q .answer → r ≡ r'
@@ -31,3 +32,14 @@ module _ (n C D : ℕ) (p q : Run) (w spare waiting x xs xw y ys yw : List ℕ) 
   link-export-tight A B =
       let t = link-tight n C D p q w spare waiting (A .answer) (B .answer) x xs xw y ys yw (A .holds) (B .holds) in
       (one-return (λ a. LinkPromise n C D p q w spare waiting a x xs xw) (λ a. LinkPromise n C D p q w spare waiting a y ys yw) r r' A B (t .0), t .1, t .2, t .3)
+
+-- equal parts have one packing
+one-packing : (a b : Result) → a .stop ≡ b .stop → a .carried ≡ b .carried → packResult a ≡ packResult b
+one-packing a b e f = rw (e, f)
+
+module _ (n C D : ℕ) (bytes : List ℕ) (t x y : Tables) (r r' : ℕ) where
+  pub stream-export-tight : (A : PackedResult (λ a. StreamPromise n C D bytes t a x) r) (B : PackedResult (λ a. StreamPromise n C D bytes t a y) r')
+      → (r ≡ r') × Same (A .result) (B .result) x y
+  stream-export-tight A B =
+      let e = stream-tight n C D bytes t (A .result) (B .result) x y (A .holds) (B .holds) in
+      (A .packed ∙ one-packing (A .result) (B .result) (e .stop) (e .carried) ∙ sym (B .packed), e)

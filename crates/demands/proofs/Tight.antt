@@ -1,35 +1,37 @@
 -- How tight the contracts are: two outcomes that a call's promise allows for the same input coincide, in the answer and in every
--- table. And what follows for each refusal and for asking. Assumes nothing: the promises alone.
-use Prim.Native.Nat.{ℕ}
+-- table, a stream's in both totals too. And asking about two runs says the same whichever is named first. Assumes nothing: the
+-- promises alone.
+use Prim.Native.Nat.{ℕ, _*_, _/_}
 use mathlib.Core.Bool.{Bool, true, false, not, _||_}
-use mathlib.Core.List.{List, [], _∷_}
+use mathlib.Core.List.{List}
 use mathlib.Core.Logic.{inl, inr, Dec·and}
-use mathlib.Core.Path.{_≡_, refl, sym, _∙_}
-use native.Mathlib.Decide.{ℕ-discrete, map-dec}
+use mathlib.Core.Option.{Option, none, some}
+use mathlib.Core.Path.{_≡_, refl, sym, ap, _∙_}
+use native.Mathlib.Decide.{ℕ-discrete, decLe, map-dec}
 use native.Mathlib.Omega.{arith}
 use lib.ListN.{length}
 use Rattle.terms.specs.Run.{badName, sameRun}
-use Rattle.terms.specs.Size.{InRoom, storeWords, waitingWords}
+use Rattle.terms.specs.Size.{InRoom, storeWords, waitingWords, streamMost, totalMost}
 use Rattle.terms.specs.declared.run.Run.{Run}
 use Rattle.terms.specs.declared.refusal.Answer.{Answer}
-use Rattle.terms.specs.declared.refusal.Answer.the-variants.{Done, Refused}
-use Rattle.terms.specs.declared.refusal.Refusal.{Refusal}
+use Rattle.record.specs.Bytes.{recordBytes}
 use Rattle.meaning.specs.Cells.{list, holds}
-use Rattle.meaning.specs.Turning.{Ending, settled, dense}
-use Rattle.meaning.specs.Soundness.{Sized, Sound}
+use Rattle.meaning.specs.Soundness.{Sized}
 use Rattle.meaning.specs.Day.{Day, dayOf, placeOf, isOpen}
-use Rattle.meaning.specs.Calls.{Call, openRun, closeRun, link, unlink, ask, reading, Outcome, ended, doLink, doUnlink, act, call}
-use Rattle.meaning.specs.Promise.{Carries, Promise, EmptyPromise, Lent, LinkPromise}
+use Rattle.meaning.specs.Calls.{Call, link, ask, call}
+use Rattle.meaning.specs.Promise.{Holds, Carries, Promise, EmptyPromise, Lent, LinkPromise, Tables, StreamLent, Result, SpareIs, StreamCarries, StreamPromise, progress}
 use Rattle.meaning.proofs.Decided.{sized-dec}
 use Rattle.meaning.proofs.Rules.{sound-or}
 use Rattle.meaning.proofs.Determined.{sound-determined}
 use Rattle.meaning.proofs.Finding.{run-same, run-other, run-or}
-use Rattle.meaning.proofs.Kept.{call-case, link-run, run}
 
--- two tables that hold the same day are the same, so what carries a call out is one
+-- one table holds a day
+held-once : (n C D : ℕ) (s : Day) (x y : List ℕ) → Holds n C D x s → Holds n C D y s → x ≡ y
+held-once n C D s x y a b = sound-determined n C D D x y (a .sound) (b .sound) (a .day ∙ sym (b .day))
+
+-- what carries a call out is one
 carries-once : (n C D : ℕ) (q : Call) (w : List ℕ) (a b : Answer) (x y : List ℕ) → Carries n C D q w a x → Carries n C D q w b y → (a ≡ b) × (x ≡ y)
-carries-once n C D q w a b x y A B =
-    (A .answer ∙ sym (B .answer), sound-determined n C D D x y (A .holds .sound) (B .holds .sound) (A .holds .day ∙ sym (B .holds .day)))
+carries-once n C D q w a b x y A B = (A .answer ∙ sym (B .answer), held-once n C D (call D (dayOf n C w) q .after) x y (A .holds) (B .holds))
 
 pub call-tight : (n C D : ℕ) (q : Call) (w : List ℕ) (a b : Answer) (x y : List ℕ) → Promise n C D q w a x → Promise n C D q w b y → (a ≡ b) × (x ≡ y)
 call-tight n C D q w a b x y A B =
@@ -42,7 +44,7 @@ call-tight n C D q w a b x y A B =
     ]
 
 -- empty asks for no list limit: with any limit, as 2, its sizes are decided
-two-sized : (n C : ℕ) (w : List ℕ) → InRoom n C × (length w ≡ storeWords n C) → Sized n C 2 w
+pub two-sized : (n C : ℕ) (w : List ℕ) → InRoom n C × (length w ≡ storeWords n C) → Sized n C 2 w
 two-sized n C w z = record { room = z .0; limit = record { least = omega arith; most = omega arith }; long = z .1 }
 
 pub empty-tight : (n C : ℕ) (w : List ℕ) (a b : Answer) (x y : List ℕ) → EmptyPromise n C w a x → EmptyPromise n C w b y → (a ≡ b) × (x ≡ y)
@@ -58,7 +60,7 @@ empty-tight n C w a b x y A B =
           (f .0 ∙ sym (g .0), f .1 ∙ sym (g .1))
     ]
 
-lent-dec : (n C D : ℕ) (w spare waiting : List ℕ) → Dec (Lent n C D w spare waiting)
+pub lent-dec : (n C D : ℕ) (w spare waiting : List ℕ) → Dec (Lent n C D w spare waiting)
 lent-dec n C D w spare waiting =
     map-dec (λ p. record { sized = p .0; spare-long = p .1 .0; waiting-long = p .1 .1 }) (λ l. (l .sized, (l .spare-long, l .waiting-long)))
     (Dec·and (sized-dec n C D w) (Dec·and (ℕ-discrete (length spare) (storeWords n C)) (ℕ-discrete (length waiting) (waitingWords n))))
@@ -82,71 +84,67 @@ module _ (n C D : ℕ) (p q : Run) (w spare waiting : List ℕ) (a b : Answer) (
           → (a ≡ b) × (x ≡ y) × (xs ≡ ys) × (xw ≡ yw)
       both f g = (f .0 ∙ sym (g .0), f .1 ∙ sym (g .1), f .2 ∙ sym (g .2), f .3 ∙ sym (g .3))
 
--- ---- a refused call changes no word of the store
-different : {A : Type 0} (k : ℕ) (why : Refusal) → Done k ≡ Refused why → A
-different k why e = absurd (let z : _≡_ {A = ℕ} 0 1 = cc in omega arith)
+-- ---- a stream
+pub stream-lent-dec : (n C D : ℕ) (bytes : List ℕ) (t : Tables) → Dec (StreamLent n C D bytes t)
+stream-lent-dec n C D bytes t =
+    map-dec
+    (λ p. record { lent = p .0; short = p .1 .0; answers-long = p .1 .1 .0; accepted-most = p .1 .1 .1 .0; reversals-most = p .1 .1 .1 .1 })
+    (λ l. (l .lent, (l .short, (l .answers-long, (l .accepted-most, l .reversals-most)))))
+    (Dec·and (lent-dec n C D (t .store) (t .spare) (t .waiting))
+    (Dec·and (decLe (length bytes) streamMost)
+    (Dec·and (decLe (2 * (length bytes / recordBytes)) (length (t .answers)))
+    (Dec·and (decLe (t .accepted) totalMost) (decLe (t .reversals) totalMost)))))
 
-module _ (D : ℕ) (s : Day) (why : Refusal) where
-  -- an end that is refused leaves the day
-  Stays : Outcome → Type 0
-  Stays o = o .answer ≡ Refused why → o .after ≡ s
+-- two results and the tables after them are the same, part by part
+pub record Same (r r' : Result) (t t' : Tables) : Type 0 where
+  pub stop : r .stop ≡ r' .stop
+  pub carried : r .carried ≡ r' .carried
+  pub store : t .store ≡ t' .store
+  pub spare : t .spare ≡ t' .spare
+  pub waiting : t .waiting ≡ t' .waiting
+  pub answers : t .answers ≡ t' .answers
+  pub accepted : t .accepted ≡ t' .accepted
+  pub reversals : t .reversals ≡ t' .reversals
 
-  ended-stays : (fs : List ℕ) (e : Ending) → Stays (ended s fs e)
-  unfolding Stays
-  ended-stays fs (settled ls r) h = different r why h
-  ended-stays fs dense h = refl
+spare-once : (n C D : ℕ) (o : Option Day) (spare x y : List ℕ) → SpareIs n C D o spare x → SpareIs n C D o spare y → x ≡ y
+spare-once n C D none spare x y a b = a ∙ sym b
+spare-once n C D (some s) spare x y a b = held-once n C D s x y a b
 
-  link-stays : (u v : ℕ) (fs : List ℕ) → Stays (doLink D s u v fs)
-  unfolding Stays
-  link-stays u v [] h = refl
-  link-stays u v (i ∷ fs) h = link-run (λ a t. a ≡ Refused why → t ≡ s) D s u v i fs (ended-stays fs (run D s u v i)) h
+same : (r r' : Result) (t t' : Tables) → r ≡ r' → t ≡ t' → Same r r' t t'
+same r r' t t' e f =
+    record {
+      stop = ap (λ (z : Result). z .stop) e;
+      carried = ap (λ (z : Result). z .carried) e;
+      store = ap (λ (z : Tables). z .store) f;
+      spare = ap (λ (z : Tables). z .spare) f;
+      waiting = ap (λ (z : Tables). z .waiting) f;
+      answers = ap (λ (z : Tables). z .answers) f;
+      accepted = ap (λ (z : Tables). z .accepted) f;
+      reversals = ap (λ (z : Tables). z .reversals) f;
+    }
 
-  unlink-stays : (u v : ℕ) → Stays (doUnlink s u v)
-  unfolding Stays
-  unlink-stays u v = go (holds v (list (s .lists) u)) refl
-    where
-      go : (b : Bool) → holds v (list (s .lists) u) ≡ b → doUnlink s u v .answer ≡ Refused why → doUnlink s u v .after ≡ s
-      go true e h = different 0 why (rw (doUnlink, e) at h)
-      go false e h = different 0 why (rw (doUnlink, e) at h)
+module _ (n C D : ℕ) (bytes : List ℕ) (t : Tables) (r r' : Result) (x y : Tables) where
+  stream-once : StreamCarries n C D bytes t r x → StreamCarries n C D bytes t r' y → Same r r' x y
+  stream-once A B =
+      record {
+        stop = A .stop ∙ sym (B .stop);
+        carried = A .carried ∙ sym (B .carried);
+        store = held-once n C D (progress n C D bytes t .day) (x .store) (y .store) (A .holds) (B .holds);
+        spare = spare-once n C D (progress n C D bytes t .turned) (t .spare) (x .spare) (y .spare) (A .spared) (B .spared);
+        waiting = A .waited ∙ sym (B .waited);
+        answers = A .answered ∙ sym (B .answered);
+        accepted = A .accepted ∙ sym (B .accepted);
+        reversals = A .reversals ∙ sym (B .reversals);
+      }
 
-  act-stays : (q : Call) → Stays (act D s q)
-  unfolding Stays
-  act-stays (openRun p) h = different _ why h
-  act-stays (closeRun p) h = different _ why h
-  act-stays (link p q) h = link-stays (placeOf s p) (placeOf s q) (s .free) h
-  act-stays (unlink p q) h = unlink-stays (placeOf s p) (placeOf s q) h
-  act-stays (ask p q) h = different _ why h
-  act-stays (reading ps) h = different _ why h
-
-  call-stays : (q : Call) → call D s q .answer ≡ Refused why → call D s q .after ≡ s
-  unfolding Stays
-  call-stays q = call-case Stays D s q (λ _ _ _. refl) (λ _. act-stays q)
-
-carries-stays : (n C D : ℕ) (q : Call) (w : List ℕ) (why : Refusal) (x : List ℕ) → Sound n C D w → Carries n C D q w (Refused why) x → x ≡ w
-carries-stays n C D q w why x s k =
-    sound-determined n C D D x w (k .holds .sound) s (k .holds .day ∙ call-stays D (dayOf n C w) why q (sym (k .answer)))
-
-pub refused-stays : (n C D : ℕ) (q : Call) (w : List ℕ) (why : Refusal) (x : List ℕ) → Promise n C D q w (Refused why) x → x ≡ w
-refused-stays n C D q w why x A =
-    elim (sized-dec n C D w) [
-      | no h ↦ A .sizes h .1
-      | yes z ↦ elim (sound-or n C D w) [ inr h ↦ A .unsound z h .1 | inl s ↦ carries-stays n C D q w why x s (A .sound s) ]
+  pub stream-tight : StreamPromise n C D bytes t r x → StreamPromise n C D bytes t r' y → Same r r' x y
+  stream-tight A B = elim (stream-lent-dec n C D bytes t) [
+    | no h ↦ same r r' x y (A .sizes h .0 ∙ sym (B .sizes h .0)) (A .sizes h .1 ∙ sym (B .sizes h .1))
+    | yes l ↦ elim (sound-or n C D (t .store)) [
+      | inr h ↦ same r r' x y (A .unsound l h .0 ∙ sym (B .unsound l h .0)) (A .unsound l h .1 ∙ sym (B .unsound l h .1))
+      | inl s ↦ stream-once (A .sound l s) (B .sound l s)
     ]
-
-pub link-refused-stays : (n C D : ℕ) (p q : Run) (w spare waiting : List ℕ) (why : Refusal) (x xs xw : List ℕ)
-    → LinkPromise n C D p q w spare waiting (Refused why) x xs xw → x ≡ w
-link-refused-stays n C D p q w spare waiting why x xs xw A =
-    elim (lent-dec n C D w spare waiting) [
-      | no h ↦ A .sizes h .1
-      | yes l ↦ elim (sound-or n C D w) [ inr h ↦ A .unsound l h .1 | inl s ↦ carries-stays n C D (link p q) w why x s (A .sound l s .carries) ]
-    ]
-
-pub empty-refused-stays : (n C : ℕ) (w : List ℕ) (why : Refusal) (x : List ℕ) → EmptyPromise n C w (Refused why) x → x ≡ w
-empty-refused-stays n C w why x A =
-    elim (sized-dec n C 2 w) [
-      | yes z ↦ different 0 why (sym (A .done (z .room) (z .long) .0))
-      | no h ↦ A .sizes (λ z. h (two-sized n C w z)) .1
-    ]
+  ]
 
 -- ---- asking about p and q and about q and p is the same
 or-comm : (a b : Bool) → a || b ≡ b || a
