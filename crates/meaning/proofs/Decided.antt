@@ -7,7 +7,7 @@ use native.Mathlib.Decide.{ℕ-discrete, decLe, decLt, map-dec}
 use native.Mathlib.Omega.{arith}
 use lib.ListN.{length}
 use Rattle.terms.specs.Run.{lineMost}
-use Rattle.terms.specs.Size.{storeWords}
+use Rattle.terms.specs.Size.{placesMost, cellsMost, limitMost, storeWords}
 use Rattle.meaning.specs.Table.{NONE, lineOf, numberOf, headOf, lengthOf, ownerOf, targetOf, nextOf}
 use Rattle.meaning.specs.Soundness.{Aims, lengths, Sized}
 use Rattle.meaning.proofs.Judged.{Line, Differ, Fresh, CellOk, Walks, Has, Lone, Alone, PlaceOk, Judged}
@@ -43,8 +43,8 @@ sized-dec n C D w =
       long = p .1 .1;
     })
     (λ s. ((s .room .places-least, (s .room .places-most, (s .room .cells-least, s .room .cells-most))), ((s .limit .least, s .limit .most), s .long)))
-    (Dec·and (Dec·and (decLe 1 n) (Dec·and (decLe n 4096) (Dec·and (decLe 1 C) (decLe C 16384))))
-    (Dec·and (Dec·and (decLe 2 D) (decLe D 64)) (ℕ-discrete (length w) (storeWords n C))))
+    (Dec·and (Dec·and (decLe 1 n) (Dec·and (decLe n placesMost) (Dec·and (decLe 1 C) (decLe C cellsMost))))
+    (Dec·and (Dec·and (decLe 2 D) (decLe D limitMost)) (ℕ-discrete (length w) (storeWords n C))))
 
 module _ (n C : ℕ) (w : List ℕ) where
   line-dec : (v : ℕ) → Dec (Line n C w v)

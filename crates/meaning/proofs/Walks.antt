@@ -6,6 +6,7 @@ use mathlib.Core.List.{List}
 use mathlib.Core.Path.{_≡_, refl, sym, ap, _∙_}
 use native.Mathlib.Omega.{arith}
 use lib.ListN.{length, getD}
+use Rattle.terms.specs.Size.{cellsMost}
 use Rattle.meaning.specs.Table.{NONE, headAt, nextAt, ownerOf, targetOf, nextOf}
 use Rattle.meaning.specs.Cells.{Cell}
 use Rattle.meaning.specs.Soundness.{Reaches, Along}
@@ -108,7 +109,7 @@ module _ (n C : ℕ) (w : List ℕ) where
   reaches-from v (suc m) x (suc a) h r = let e : suc m - suc a ≡ m - a = omega arith in rw e (reaches-from v m (nextOf n C w x) a (omega arith) (r .2))
 
   -- the number of cells up to NONE is the chain's own
-  pub reaches-unique : C ≤ 16384 → (u v j k x : ℕ) → Reaches n C w u j x → Reaches n C w v k x → j ≡ k
+  pub reaches-unique : C ≤ cellsMost → (u v j k x : ℕ) → Reaches n C w u j x → Reaches n C w v k x → j ≡ k
   unfolding Reaches
   reaches-unique c u v zero zero x p q = refl
   reaches-unique c u v zero (suc k) x p q = absurd (omega (arith, q .0))
@@ -116,7 +117,7 @@ module _ (n C : ℕ) (w : List ℕ) where
   reaches-unique c u v (suc j) (suc k) x p q = ap suc (reaches-unique c u v j k (nextOf n C w x) (p .2) (q .2))
 
   -- so a cell stands once in its list
-  pub nth-once : C ≤ 16384 → (v m x a b : ℕ) → Reaches n C w v m x → a < m → b < m → nth n C w a x ≡ nth n C w b x → a ≡ b
+  pub nth-once : C ≤ cellsMost → (v m x a b : ℕ) → Reaches n C w v m x → a < m → b < m → nth n C w a x ≡ nth n C w b x → a ≡ b
   nth-once c v m x a b r p q e =
       let ra : Reaches n C w v (m - a) (nth n C w b x) = rw e at (reaches-from v m x a (omega arith) r) in
       let rb : Reaches n C w v (m - b) (nth n C w b x) = reaches-from v m x b (omega arith) r in

@@ -5,6 +5,7 @@ use mathlib.Core.Path.{_≡_, refl, sym, ap, ap₂, subst, _∙_}
 use native.Mathlib.Omega.{arith}
 use native.Mathlib.Numerals.{add-one}
 use lib.ListN.{length, getD, set}
+use Rattle.terms.specs.Size.{cellsMost}
 use Rattle.meaning.specs.Cells.{Cell, Lists, list, bare, sum}
 use Rattle.meaning.specs.Table.{word, written, lengthOf}
 use Rattle.meaning.specs.Turning.{Work, turn, Ending, settled, dense, turning}
@@ -30,7 +31,7 @@ pub record Turns (n C D m a : ℕ) (s₀ s ws : List ℕ) (top turned r : ℕ) :
   pub waits : Waits D (listsOf n C s) (stackOf ws top)
   pub few : m ≤ C
   pub most : turned ≤ m
-  pub small : r ≤ turned * 16384
+  pub small : r ≤ turned * cellsMost
   pub same : turning D (m - turned) (listsOf n C s) (stackOf ws top) r ≡ turning D m (listsOf n C s₀) (a ∷ []) 0
   pub beside : Beside n C s₀ s
 

@@ -4,6 +4,7 @@ use Prim.Native.Nat.{ℕ, zero, suc, _+_, _-_, _≤_, _<_}
 use mathlib.Core.List.{List, [], _∷_}
 use mathlib.Core.Path.{_≡_}
 use lib.ListN.{length}
+use Rattle.terms.specs.Size.{limitMost}
 use Rattle.meaning.specs.Cells.{Cell, Lists, list, bare, sum}
 use Rattle.meaning.specs.Table.{word, lengthOf}
 use Rattle.meaning.specs.Turning.{Work, turn, Ending, settled, dense, turning}
@@ -26,7 +27,7 @@ listsOf n C s = dayOf n C s .lists
 -- what holds of the store between any two cells
 pub record Linked (n C D : ℕ) (s : List ℕ) : Type 0 where
   pub threaded : Threaded n C s
-  pub limit : D ≤ 64
+  pub limit : D ≤ limitMost
   pub inside : sum (outside n) (listsOf n C s) ≡ 0
   pub unlooped : sum loop (listsOf n C s) ≡ 0
 

@@ -8,7 +8,7 @@ use native.Mathlib.Decide.{ℕ-discrete, decLt}
 use native.Mathlib.Omega.{arith}
 use lib.ListN.{length, take, drop, replicate, length-drop, length-replicate}
 use lib.Seq.{take-all, drop-drop}
-use Rattle.terms.specs.Size.{storeWords, waitingWords, totalMost}
+use Rattle.terms.specs.Size.{storeWords, waitingWords, streamMost, totalMost}
 use Rattle.terms.specs.declared.refusal.Refusal.{Refusal}
 use Rattle.record.specs.Reading.{readingOf}
 use Rattle.record.specs.declared.Record.{Record}
@@ -68,7 +68,7 @@ pub record Going (n C D : ℕ) (bytes : List ℕ) (t₀ : Tables) (store spare w
   pub sound : Sound n C D store
   pub place : at ≡ 15 * carried
   pub within : at ≤ length bytes
-  pub short : length bytes ≤ 983025
+  pub short : length bytes ≤ streamMost
   pub room : length answers ≡ length (t₀ .answers)
   pub long : 2 * (length bytes / 15) ≤ length answers
   pub spared : SpareIs n C D turned (t₀ .spare) spare

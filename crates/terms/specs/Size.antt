@@ -9,17 +9,27 @@ use Rattle.terms.specs.declared.size.Limited.the-variants as limited
 use Rattle.terms.specs.declared.size.Measured.{Measured}
 use Rattle.terms.specs.declared.size.Measured.the-variants as measured
 
--- places for runs: 1 to 4,096; cells for links: 1 to 16,384
+-- places for runs: 1 to 4,096
+abbrev pub placesMost : ℕ
+placesMost = 4096
+
+-- cells for links: 1 to 16,384
+abbrev pub cellsMost : ℕ
+cellsMost = 16384
+
 pub record InRoom (n C : ℕ) : Type 0 where
   pub places-least : 1 ≤ n
-  pub places-most : n ≤ 4096
+  pub places-most : n ≤ placesMost
   pub cells-least : 1 ≤ C
-  pub cells-most : C ≤ 16384
+  pub cells-most : C ≤ cellsMost
 
 -- the list limit: 2 to 64
+abbrev pub limitMost : ℕ
+limitMost = 64
+
 pub record InLimit (D : ℕ) : Type 0 where
   pub least : 2 ≤ D
-  pub most : D ≤ 64
+  pub most : D ≤ limitMost
 
 -- the store has exactly 4n + 2 + 3C words, the spare the same
 abbrev pub storeWords : ℕ → ℕ → ℕ
