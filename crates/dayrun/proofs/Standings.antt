@@ -9,7 +9,7 @@ use Rattle.meaning.specs.Soundness.{Sound}
 use Rattle.meaning.specs.Table.{word}
 use Rattle.meaning.specs.Day.{dayOf}
 use Rattle.meaning.proofs.Threaded.{sound-threaded, length-most}
-use Rattle.store.proofs.Joining.{links-count}
+use Rattle.meaning.proofs.Counts.{links-count}
 
 module _ (w : List ℕ) (s : Sound 256 1024 4 w) where
   pub in-table : 1025 < length w

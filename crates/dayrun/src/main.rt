@@ -1,7 +1,5 @@
 // The program dayrun: a day's records from standard input, carried out on an empty store of 256 places, 1,024 cells and limit 4.
 // It prints each record's outcome and how the day ended. It only reads, prints and calls: every number comes from the library.
-ghost use Prim.Native.Nat.{_≤_};
-ghost use lib.ListN.{length};
 ghost use mathlib.Core.Path.{_≡_};
 ghost use Rattle.dayrun.specs.Line.{Standing, stopNumber};
 use stream::Stop;

@@ -1,13 +1,12 @@
 -- Calls one after another, the links that stand, and choices of directions for them: what demands 2 and 3 speak of.
 use Prim.Native.Nat.{ℕ, _+_, _-_, _*_, _≤_, min}
-use mathlib.Core.Bool.{Bool, true, false, not, _||_, _&&_}
+use mathlib.Core.Bool.{Bool, false, not, _||_, _&&_}
 use mathlib.Core.List.{List, [], _∷_, map}
 use mathlib.Core.Path.{_≡_}
 use Rattle.terms.specs.Run.{sameRun}
 use Rattle.terms.specs.Refusal.{valueOf}
 use Rattle.terms.specs.declared.run.Run.{Run}
 use Rattle.terms.specs.declared.refusal.Answer.{Answer}
-use Rattle.terms.specs.declared.refusal.Answer.the-variants.{Done, Refused}
 use Rattle.meaning.specs.Cells.{sum, same}
 use Rattle.meaning.specs.Day.{Day, runOf}
 pub use Rattle.meaning.specs.Stream.{accepts, taken, reversed}

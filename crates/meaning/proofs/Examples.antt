@@ -3,7 +3,6 @@ use Prim.Native.Nat.{ℕ}
 use mathlib.Core.List.{List, [], _∷_, _++_, map}
 use mathlib.Core.Option.{Option, none, some}
 use mathlib.Core.Path.{_≡_, refl}
-use lib.ListN.{length}
 use Rattle.terms.specs.Refusal.{refusalOf, valueOf}
 use Rattle.terms.specs.Run.{badName, sameRun}
 use Rattle.terms.specs.declared.run.Run.{Run}

@@ -1,15 +1,13 @@
 -- A list is turned one cell at a time: its first cell is handed over, and what is left to turn is what was left before. So the
 -- table is threaded and its day told between any two cells. Assumes nothing.
-use Prim.Native.Nat.{ℕ, zero, suc, _+_, _-_, _≤_, _<_}
-use mathlib.Core.Bool.{Bool, true, false}
+use Prim.Native.Nat.{ℕ, suc, _+_, _-_, _<_}
 use mathlib.Core.List.{List, [], _∷_}
-use mathlib.Core.Path.{_≡_, refl, sym, ap, subst, _∙_}
+use mathlib.Core.Path.{_≡_, sym, ap, _∙_}
 use native.Mathlib.Omega.{arith}
-use lib.Dec.{eqb}
-use lib.ListN.{length, getD, set, length-set}
+use lib.ListN.{length, set, length-set}
 use lib.Seq.{getD-set-same, getD-set-other, set-set, set-comm, set-getD}
 use Rattle.meaning.specs.Cells.{Cell, Lists, Weight, list, push, bare, aimed, sum, rowSum}
-use Rattle.meaning.specs.Turning.{Work, over, put, hand, handAll, turn}
+use Rattle.meaning.specs.Turning.{over, put, handAll, turn}
 use Rattle.meaning.proofs.Sums.{Even, push-sum, sum-set}
 use Rattle.meaning.proofs.Waiting.{push-list}
 

@@ -31,3 +31,4 @@ pub mod EmptyDay
 pub mod Handing
 pub mod Numbers
 pub mod Order
+pub mod Counts

@@ -1,19 +1,17 @@
 -- How large a call's number can be: a place is below n, an ask is 0 or 1, and a link's reversals are at most the square of the
 -- number of links, the new one included. So each fits a word of 32 bits. Assumes nothing.
-use Prim.Native.Nat.{ℕ, zero, suc, _+_, _*_, _^_, _≤_, _<_}
+use Prim.Native.Nat.{ℕ, _+_, _*_, _≤_, _<_}
 use mathlib.Core.Bool.{Bool, true, false}
 use mathlib.Core.List.{List, [], _∷_}
-use mathlib.Core.Option.{none, some}
-use mathlib.Core.Path.{_≡_, refl, sym, ap, subst, _∙_}
-use native.Mathlib.Nat.{mul-le-mul}
+use mathlib.Core.Option.{none}
+use mathlib.Core.Path.{_≡_, refl, _∙_}
 use native.Mathlib.Omega.{arith}
-use lib.Dec.{eqb, lit<}
+use lib.Dec.{eqb}
 use lib.ListN.{length}
 use Rattle.terms.specs.Refusal.{valueOf}
-use Rattle.terms.specs.declared.run.Run.{Run}
-use Rattle.meaning.specs.Cells.{Cell, Lists, list, push, links, holds}
-use Rattle.meaning.specs.Turning.{over, put, Ending, settled, dense, turning}
-use Rattle.meaning.specs.Day.{Day, placeOf, lowest}
+use Rattle.meaning.specs.Cells.{Cell, Lists, list, links, holds}
+use Rattle.meaning.specs.Turning.{Ending, settled, dense}
+use Rattle.meaning.specs.Day.{Day, placeOf}
 use Rattle.meaning.specs.Calls.{Call, openRun, closeRun, link, unlink, ask, reading, Outcome, done, ended, linkIn, doLink, doUnlink, cut, linked, yes1, tests, firstRefusal, act, call}
 use Rattle.meaning.proofs.Kept.{joined, run, link-run, new-link, call-case}
 use Rattle.meaning.proofs.Lists.{first-most}

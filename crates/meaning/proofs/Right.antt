@@ -5,7 +5,7 @@ use mathlib.Core.Path.{_≡_}
 use lib.ListN.{length}
 use Rattle.terms.specs.Run.{lineMost}
 use Rattle.terms.specs.declared.run.Run.{Run}
-use Rattle.meaning.specs.Cells.{Cell, Lists, Weight, list, sum, same}
+use Rattle.meaning.specs.Cells.{Weight, list, sum, same}
 use Rattle.meaning.specs.Day.{Day, runOf}
 
 -- 1 where v is no place below n, else 0

@@ -14,7 +14,7 @@ use Rattle.terms.specs.declared.refusal.Refusal.the-variants.{Sizes, Unsound}
 use Rattle.record.specs.Bytes.{recordBytes}
 use Rattle.meaning.specs.Soundness.{Sized, Sound}
 use Rattle.meaning.specs.Day.{Day, dayOf, emptyTable}
-use Rattle.meaning.specs.Calls.{Call, link, Outcome, call}
+use Rattle.meaning.specs.Calls.{Call, link, call}
 use Rattle.meaning.specs.Stream.{recordsOf, Progress, carryAll}
 
 -- the table is sound and holds the day; that day alone determines its words

@@ -10,7 +10,6 @@ use Rattle.terms.specs.declared.refusal.Refusal.the-variants.{WrongMark, WrongK
 use Rattle.record.specs.Bytes.{recordBytes, marked, kindOf, runAt}
 use Rattle.record.specs.declared.Kind.{Kind}
 use Rattle.record.specs.declared.Kind.the-variants.{Open, Close, Link, Unlink, Ask}
-use Rattle.record.specs.declared.Record.{Record}
 use Rattle.record.specs.declared.reader.KindByte.{KindByte}
 use Rattle.record.specs.declared.reader.KindByte.the-variants.{Known, Unknown}
 use Rattle.record.specs.declared.reader.Reading.{Reading}

@@ -1,9 +1,9 @@
 -- Ask and unlink: which refusal each test gives, and what is left where none holds. Assumes nothing.
-use Prim.Native.Nat.{ℕ, _+_, _≤_, _<_}
-use mathlib.Core.Bool.{Bool, true, false, not, _||_}
+use Prim.Native.Nat.{ℕ, _<_}
+use mathlib.Core.Bool.{Bool, true, false, not}
 use mathlib.Core.List.{List, [], _∷_}
-use mathlib.Core.Option.{Option, none, some}
-use mathlib.Core.Path.{_≡_, refl, sym, ap, subst, _∙_}
+use mathlib.Core.Option.{Option, none}
+use mathlib.Core.Path.{_≡_, refl, ap, _∙_}
 use native.Mathlib.Omega.{arith}
 use lib.ListN.{length}
 use borrow.Author.Tests.{lt-ltb, le-ltb}
@@ -12,17 +12,17 @@ use Rattle.terms.specs.declared.refusal.Refusal.{Refusal}
 use Rattle.terms.specs.declared.refusal.Refusal.the-variants.{NoLink}
 use Rattle.terms.specs.declared.refusal.Answer.the-variants.{Done, Refused}
 use Rattle.meaning.specs.Cells.{list, seek, holds}
-use Rattle.meaning.specs.Table.{NONE, lengthOf, headOf}
+use Rattle.meaning.specs.Table.{NONE, lengthOf}
 use Rattle.meaning.specs.Soundness.{Sound}
-use Rattle.meaning.specs.Day.{Day, dayOf, cellsOf, placeOf}
-use Rattle.meaning.specs.Calls.{Call, ask, unlink, Outcome, Tests, done, refused, linked, tests, pairTests, firstRefusal, act, unless, call, cut, doUnlink, yes1}
+use Rattle.meaning.specs.Day.{dayOf, placeOf}
+use Rattle.meaning.specs.Calls.{Call, ask, unlink, Tests, done, linked, tests, pairTests, firstRefusal, act, unless, call, cut, doUnlink, yes1}
 use Rattle.meaning.specs.Promise.{Carries}
 use Rattle.meaning.proofs.Effects.{day-list, unlink-moves, unlink-cut}
 use Rattle.meaning.proofs.Steps.{moved}
 use Rattle.meaning.proofs.Threaded.{Threaded, sound-threaded, list-length}
-use Rattle.store.specs.Find.{Spot-of, Spotted, Absent, Found, Barred}
-use Rattle.store.specs.declared.find.Spot.{Spot}
-use Rattle.store.specs.declared.find.Ends.{Ends}
+use Rattle.find.specs.Find.{Spotted, Absent, Found, Barred}
+use Rattle.find.specs.declared.Spot.{Spot}
+use Rattle.find.specs.declared.Ends.{Ends}
 use Rattle.store.proofs.Carrying.{refuses, does}
 
 -- a list has a link to t, or has none

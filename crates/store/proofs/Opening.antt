@@ -1,9 +1,8 @@
 -- Open and close: which refusal each test gives, and what is left where none holds. Assumes nothing.
 use Prim.Native.Nat.{ℕ, _≤_, _<_}
-use mathlib.Core.Bool.{Bool, true, false}
+use mathlib.Core.Bool.{true, false}
 use mathlib.Core.List.{List}
-use mathlib.Core.Path.{_≡_, refl, sym, ap, _∙_}
-use native.Mathlib.Omega.{arith}
+use mathlib.Core.Path.{_≡_, refl}
 use lib.ListN.{length}
 use borrow.Author.Tests.{le-leb, lt-leb}
 use Rattle.terms.specs.Run.{noRun, badName}
@@ -12,14 +11,15 @@ use Rattle.terms.specs.declared.refusal.Answer.{Answer}
 use Rattle.terms.specs.declared.refusal.Answer.the-variants.{Done, Refused}
 use Rattle.terms.specs.declared.refusal.Refusal.the-variants.{BadName, NotOpen, Already, NoRoom, Touched}
 use Rattle.meaning.specs.Soundness.{Sound}
-use Rattle.meaning.specs.Day.{Day, dayOf, placeOf, isOpen, lowest}
-use Rattle.meaning.specs.Calls.{Call, openRun, closeRun, Outcome, done, refused, touched, rename, call}
+use Rattle.meaning.specs.Day.{dayOf, placeOf, lowest}
+use Rattle.meaning.specs.Calls.{openRun, closeRun, done, touched, rename}
 use Rattle.meaning.specs.Promise.{Carries}
 use Rattle.meaning.proofs.Lists.{each-length}
 use Rattle.meaning.proofs.Renamed.{renamed-threaded, renamed-day}
 use Rattle.meaning.proofs.Steps.{renamed}
 use Rattle.meaning.proofs.Threaded.{sound-threaded}
-use Rattle.store.proofs.Carrying.{refuses, does, found-open, found-shut}
+use Rattle.find.proofs.Finding.{found-open, found-shut}
+use Rattle.store.proofs.Carrying.{refuses, does}
 
 module _ (n C D : ℕ) (w : List ℕ) (s : Sound n C D w) (p : Run) where
   pub open-bad : badName p ≡ true → Carries n C D (openRun p) w (Refused BadName) w

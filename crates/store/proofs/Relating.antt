@@ -1,27 +1,26 @@
 -- Link: which refusal each test gives, and that else it is the link of the two places. Assumes nothing.
-use Prim.Native.Nat.{ℕ, zero, suc, _≤_, _<_}
-use mathlib.Core.Bool.{Bool, true, false}
+use Prim.Native.Nat.{ℕ}
+use mathlib.Core.Bool.{true}
 use mathlib.Core.List.{List, [], _∷_}
-use mathlib.Core.Option.{Option, none, some}
-use mathlib.Core.Path.{_≡_, refl, sym, ap, subst, _∙_}
-use native.Mathlib.Omega.{arith}
+use mathlib.Core.Option.{Option, some}
+use mathlib.Core.Path.{_≡_, refl, sym, ap, _∙_}
 use lib.Dec.{eqb, eqb·suc-zero}
 use lib.ListN.{length}
 use Rattle.terms.specs.declared.run.Run.{Run}
 use Rattle.terms.specs.declared.refusal.Refusal.{Refusal}
 use Rattle.terms.specs.declared.refusal.Refusal.the-variants.{Already, NoRoom}
 use Rattle.terms.specs.declared.refusal.Answer.{Answer}
-use Rattle.terms.specs.declared.refusal.Answer.the-variants.{Done, Refused}
+use Rattle.terms.specs.declared.refusal.Answer.the-variants.{Refused}
 use Rattle.meaning.specs.Soundness.{Sound}
-use Rattle.meaning.specs.Day.{Day, dayOf, placeOf}
-use Rattle.meaning.specs.Calls.{Call, link, Outcome, Tests, refused, linked, tests, pairTests, firstRefusal, act, unless, call, doLink}
-use Rattle.meaning.specs.Promise.{Carries, Lent, LinkCarries}
+use Rattle.meaning.specs.Day.{dayOf, placeOf}
+use Rattle.meaning.specs.Calls.{link, Tests, refused, linked, pairTests, firstRefusal, act, unless, call, doLink}
+use Rattle.meaning.specs.Promise.{Lent, LinkCarries}
 use Rattle.meaning.proofs.Finding.{both-named}
 use Rattle.meaning.proofs.Lists.{each-length}
-use Rattle.store.specs.Find.{Spotted, Absent, Found, Barred}
-use Rattle.store.specs.Join.{Joins, joining, Joined}
-use Rattle.store.specs.declared.find.Spot.{Spot}
-use Rattle.store.specs.declared.find.Ends.{Ends}
+use Rattle.find.specs.Find.{Spotted, Absent, Found, Barred}
+use Rattle.lists.specs.Join.{Joins, joining, Joined}
+use Rattle.find.specs.declared.Spot.{Spot}
+use Rattle.find.specs.declared.Ends.{Ends}
 use Rattle.store.proofs.Carrying.{refuses, does}
 use Rattle.store.proofs.Linking.{in-first, in-second, in-neither}
 

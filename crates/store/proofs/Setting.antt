@@ -28,7 +28,7 @@ use Rattle.meaning.proofs.Threaded.{Threaded, length-most, sound-threaded}
 use Rattle.table.specs.Within.{AtCell, named}
 use Rattle.store.specs.Set.{openPlace, AllBelow, Marks, marked, total}
 use Rattle.store.proofs.Carrying.{refuses, does}
-use Rattle.store.proofs.Finding.{threaded-within}
+use Rattle.find.proofs.Finding.{threaded-within}
 use Rattle.store.proofs.Rising.{and-false, and-true, few}
 
 -- ---- every place of a set is open

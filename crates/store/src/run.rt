@@ -1,10 +1,8 @@
 // Opening and closing a run.
-ghost use mathlib.Core.Path.{_≡_};
 ghost use Rattle.meaning.specs.Calls.{openRun, closeRun};
 ghost use Rattle.meaning.specs.Promise.{Carries};
 ghost use Rattle.meaning.specs.Soundness.{Sound};
-use crate::find;
-use crate::touch;
+use find::touch;
 use table::step;
 use terms::refusal::Answer;
 use terms::refusal::Refusal;

@@ -1,9 +1,8 @@
 -- One record: the call that it asks for, carried out; its number fits a word, and only a link touches spare and waiting.
 -- Assumes nothing.
-use Prim.Native.Nat.{ℕ, _+_, _-_, _*_, _^_, _≤_, _<_}
-use mathlib.Core.Bool.{Bool, true, false}
+use Prim.Native.Nat.{ℕ, _+_, _-_, _^_, _≤_, _<_}
 use mathlib.Core.List.{List}
-use mathlib.Core.Path.{_≡_, refl, sym, ap, subst, _∙_}
+use mathlib.Core.Path.{_≡_, sym, ap, subst, _∙_}
 use native.Mathlib.Nat.{mul-le-mul}
 use native.Mathlib.Omega.{arith}
 use Rattle.terms.specs.Refusal.{valueOf}
@@ -14,13 +13,13 @@ use Rattle.record.specs.declared.Record.{Record}
 use Rattle.meaning.specs.Cells.{links}
 use Rattle.meaning.specs.Soundness.{Sound}
 use Rattle.meaning.specs.Day.{dayOf}
-use Rattle.meaning.specs.Calls.{Call, link, Outcome, call}
-use Rattle.meaning.specs.Promise.{Carries, LinkCarries, spareAfter, waitingAfter}
+use Rattle.meaning.specs.Calls.{Call, link, call}
+use Rattle.meaning.specs.Promise.{Carries, LinkCarries}
 use Rattle.meaning.specs.Stream.{asksFor, callOf}
 use Rattle.meaning.proofs.Crossing.{sound-right}
 use Rattle.meaning.proofs.Numbers.{Plain, Calm, call-most, call-calm}
-use Rattle.meaning.proofs.Threaded.{Threaded, sound-threaded, length-most}
-use Rattle.store.proofs.Joining.{links-count}
+use Rattle.meaning.proofs.Threaded.{Threaded, sound-threaded}
+use Rattle.meaning.proofs.Counts.{links-count}
 use Rattle.stream.specs.Carry.{Carried}
 
 -- at most 16,385 times 16,385 reversals

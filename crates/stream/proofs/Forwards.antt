@@ -1,6 +1,6 @@
 -- The totals: only an accepted link brings them forward. Assumes nothing.
 use Prim.Native.Nat.{ℕ, _+_}
-use mathlib.Core.Path.{_≡_, refl, sym, ap}
+use mathlib.Core.Path.{_≡_, refl}
 use native.Mathlib.Omega.{arith}
 use Rattle.terms.specs.Run.{noRun}
 use Rattle.terms.specs.declared.refusal.Answer.{Answer}

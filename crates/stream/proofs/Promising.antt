@@ -2,8 +2,8 @@
 use Prim.Native.Nat.{ℕ, _≤_}
 use mathlib.Core.Bool.{Bool, true, false, not}
 use mathlib.Core.List.{List}
-use mathlib.Core.Option.{Option, none, some}
-use mathlib.Core.Path.{_≡_, refl, sym, ap, subst, _∙_}
+use mathlib.Core.Option.{some}
+use mathlib.Core.Path.{_≡_, sym, ap, subst, _∙_}
 use lib.ListN.{length}
 use Rattle.terms.proofs.Told.{passed, failed}
 use Rattle.terms.specs.Size.{streamMost, LengthTold}
@@ -17,10 +17,9 @@ use Rattle.judge.specs.Verdict.{Says}
 use Rattle.judge.specs.declared.Verdict.{Verdict}
 use Rattle.judge.specs.declared.Verdict.the-variants as verdict
 use Rattle.meaning.specs.Soundness.{Sized, Sound}
-use Rattle.meaning.specs.Promise.{Lent, Tables, StreamLent, Result, StreamCarries, StreamPromise}
+use Rattle.meaning.specs.Promise.{Tables, StreamLent, StreamCarries, StreamPromise}
 use Rattle.stream.specs.Streamed.{stopOf, resultOf, tables, Fitting, Stopped}
 use Rattle.stream.specs.declared.Streamed.{Streamed}
-use Rattle.stream.specs.declared.Stop.{Stop}
 use Rattle.stream.specs.declared.totals.Totals.{Totals}
 
 -- what the stream's length was found to be

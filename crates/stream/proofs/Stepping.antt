@@ -1,8 +1,7 @@
 -- One record's step put together: its call, its two answer words, the totals. Assumes nothing.
-use Prim.Native.Nat.{ℕ, _+_, _*_, _^_, _≤_, _<_}
-use mathlib.Core.Bool.{Bool, true, false}
+use Prim.Native.Nat.{ℕ, _+_, _≤_}
 use mathlib.Core.List.{List}
-use mathlib.Core.Path.{_≡_, refl, sym, ap, subst, _∙_}
+use mathlib.Core.Path.{_≡_, refl, ap, _∙_}
 use native.Mathlib.Omega.{arith}
 use Rattle.terms.specs.Refusal.{numberOf, refusalOf, valueOf}
 use Rattle.terms.specs.Run.{noRun}
@@ -14,9 +13,8 @@ use Rattle.terms.specs.declared.refusal.Refusal.the-variants.{Sizes, Unsound, B
 use Rattle.record.specs.declared.Kind.{Kind}
 use Rattle.record.specs.declared.Kind.the-variants.{Open, Close, Link, Unlink, Ask}
 use Rattle.record.specs.declared.Record.{Record}
-use Rattle.meaning.specs.Calls.{Call, Outcome}
 use Rattle.meaning.specs.Stream.{asksFor, callOf, taken, reversed}
-use Rattle.stream.specs.Carry.{Carried, answered, outcome, Stepped}
+use Rattle.stream.specs.Carry.{Carried, answered, Stepped}
 use Rattle.stream.specs.Totals.{Forward}
 use Rattle.stream.specs.declared.totals.Totals.{Totals}
 

@@ -3,12 +3,12 @@ use Prim.Native.Nat.{ℕ, zero, suc, _+_, _-_, _*_, _/_, _^_, _≤_, _<_}
 use mathlib.Core.Bool.{Bool, true, false}
 use mathlib.Core.List.{List, [], _∷_}
 use mathlib.Core.Option.{Option, none, some}
-use mathlib.Core.Path.{_≡_, refl, sym, ap, ap₂, subst, _∙_}
+use mathlib.Core.Path.{_≡_, refl, sym, ap, subst, _∙_}
 use native.Mathlib.Decide.{ℕ-discrete, decLt}
 use native.Mathlib.Omega.{arith}
-use lib.ListN.{length, take, drop, replicate, length-drop, length-replicate}
+use lib.ListN.{length, take, drop, length-drop, length-replicate}
 use lib.Seq.{take-all, drop-drop}
-use Rattle.terms.specs.Size.{storeWords, waitingWords, streamMost, totalMost}
+use Rattle.terms.specs.Size.{storeWords, waitingWords, streamMost}
 use Rattle.terms.specs.declared.refusal.Refusal.{Refusal}
 use Rattle.record.specs.Reading.{readingOf}
 use Rattle.record.specs.declared.Record.{Record}
@@ -17,9 +17,8 @@ use Rattle.record.specs.declared.reader.Reading.the-variants.{Whole, End, Refus
 use Rattle.record.proofs.Readings.{at-end, cut-short}
 use Rattle.meaning.specs.Soundness.{Sound}
 use Rattle.meaning.specs.Day.{Day, dayOf}
-use Rattle.meaning.specs.Calls.{Outcome, call}
-use Rattle.meaning.specs.Stream.{Day-records, readOn, readAll, recordsOf, Progress, latest, carry, carryAll, callOf}
-use Rattle.meaning.specs.Promise.{Holds, Lent, spareAfter, waitingAfter, Tables, StreamLent, Result, progress, SpareIs, waitingThen, StreamCarries}
+use Rattle.meaning.specs.Stream.{Day-records, readOn, readAll, recordsOf, Progress, latest, carry, carryAll}
+use Rattle.meaning.specs.Promise.{Lent, spareAfter, waitingAfter, Tables, StreamLent, progress, SpareIs, waitingThen, StreamCarries}
 use Rattle.meaning.proofs.Words.{written-length}
 use Rattle.stream.specs.Carry.{StepOk, Stepped, outcome}
 use Rattle.stream.specs.Streamed.{tables}

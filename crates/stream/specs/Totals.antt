@@ -1,5 +1,5 @@
 -- What a record does to the running totals.
-use Prim.Native.Nat.{ℕ, _+_, _^_, _<_}
+use Prim.Native.Nat.{_+_, _^_, _<_}
 use mathlib.Core.Path.{_≡_}
 use Rattle.terms.specs.Refusal.{valueOf}
 use Rattle.terms.specs.Run.{noRun}

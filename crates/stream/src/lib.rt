@@ -3,8 +3,7 @@
 pub mod carry;
 pub mod totals;
 
-ghost use Prim.Native.Nat.{_+_, _≤_, _<_};
-ghost use mathlib.Core.Path.{_≡_};
+ghost use Prim.Native.Nat.{_+_, _<_};
 ghost use Rattle.meaning.specs.Promise.{StreamLent, StreamCarries, StreamPromise};
 ghost use Rattle.meaning.specs.Soundness.{Sound};
 ghost use Rattle.stream.specs.Streamed.{tables, resultOf, Fitting, Stopped};

@@ -1,5 +1,4 @@
 // Running totals: links accepted and reversals, kept by the caller.
-ghost use Prim.Native.Nat.{_<_};
 ghost use Rattle.stream.specs.Totals.{Forward, Small};
 use record::Kind;
 use terms::refusal::Answer;

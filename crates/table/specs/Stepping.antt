@@ -1,5 +1,5 @@
 -- What a caller shows before a cell leaves a list or goes to the front of one.
-use Prim.Native.Nat.{ℕ, _+_, _^_, _≤_, _<_}
+use Prim.Native.Nat.{ℕ, _^_, _≤_, _<_}
 use mathlib.Core.List.{List}
 use lib.ListN.{length}
 use Rattle.meaning.specs.Table.{lengthOf}

@@ -1,5 +1,5 @@
 // One word of a section of the store, read as a number to count with.
-ghost use Prim.Native.Nat.{_^_, _≤_, _<_};
+ghost use Prim.Native.Nat.{_^_, _<_};
 ghost use lib.ListN.{length};
 ghost use mathlib.Core.Path.{_≡_};
 ghost use Rattle.meaning.specs.Table.{word, lineOf, numberOf, headOf, lengthOf, ownerOf, targetOf, nextOf};

@@ -1,11 +1,11 @@
 // The steps that write: a place's two words, and a cell that leaves one list and goes to the front of another. The sections'
 // words are read before any is written.
-ghost use Prim.Native.Nat.{_+_, _^_, _≤_, _<_};
+ghost use Prim.Native.Nat.{_+_, _^_, _<_};
 ghost use lib.ListN.{length};
 ghost use mathlib.Core.Path.{_≡_};
 ghost use Rattle.meaning.specs.Table.{written, lengthOf};
 ghost use Rattle.meaning.proofs.Steps.{listed, celled, renamed, unhooked, hooked};
-ghost use Rattle.table.specs.Within.{Within, AtPlace, AtList, AtCell};
+ghost use Rattle.table.specs.Within.{AtPlace, AtList, AtCell};
 ghost use Rattle.table.specs.Stepping.{Unhooks, Hooks};
 use crate::section;
 use terms::run::Run;

@@ -1,7 +1,6 @@
 -- Document 01, "Sizes". The numbers stand here once.
 use Prim.Native.Nat.{ℕ, _+_, _*_, _^_, _≤_}
 use mathlib.Core.Path.{_≡_}
-use Rattle.terms.specs.declared.size.Room.{Room}
 use Rattle.terms.specs.declared.size.Roomed.{Roomed}
 use Rattle.terms.specs.declared.size.Roomed.the-variants as roomed
 use Rattle.terms.specs.declared.size.Limited.{Limited}

@@ -1,6 +1,6 @@
 -- Every number that a call returns is small: it leaves the refusal's half of a packed answer alone. Assumes nothing.
-use Prim.Native.Nat.{ℕ, _+_, _-_, _*_, _/_, _^_, _≤_, _<_}
-use mathlib.Core.Bool.{Bool, true, false, not}
+use Prim.Native.Nat.{ℕ, _-_, _*_, _/_, _^_, _<_}
+use mathlib.Core.Bool.{true, not}
 use mathlib.Core.List.{List}
 use mathlib.Core.Option.{none}
 use mathlib.Core.Path.{_≡_}
@@ -18,13 +18,13 @@ use Rattle.terms.specs.declared.refusal.Answer.the-variants.{Done, Refused}
 use Rattle.terms.specs.declared.refusal.Refusal.the-variants.{Sizes, Unsound}
 use Rattle.meaning.specs.Day.{dayOf}
 use Rattle.meaning.specs.Soundness.{Sound, Sized}
-use Rattle.meaning.specs.Calls.{Call, openRun, closeRun, link, unlink, ask, reading, Outcome, tests, firstRefusal, rising, inSet, inside, act, call}
+use Rattle.meaning.specs.Calls.{Call, openRun, closeRun, link, unlink, ask, reading, tests, firstRefusal, rising, inSet, inside, act, call}
 use Rattle.meaning.specs.Promise.{Promise, EmptyPromise, Lent, LinkPromise}
 use Rattle.meaning.proofs.Finding.{Failed, all-failed, either-false}
 use Rattle.meaning.proofs.Kept.{call-case}
 use Rattle.meaning.proofs.Sums.{sum-le}
 use Rattle.meaning.proofs.Threaded.{sound-threaded}
-use Rattle.store.proofs.Joining.{links-count}
+use Rattle.meaning.proofs.Counts.{links-count}
 use Rattle.store.proofs.Rising.{in-once}
 use Rattle.stream.proofs.Carrying.{number-small}
 use Rattle.wormstrand.specs.Pack.{Small}

@@ -1,14 +1,13 @@
 -- What an exported stream returns: the packing of the result that the stream promised, with its totals in a row. Assumes nothing.
 use Prim.Native.Nat.{ℕ, zero, suc, _+_, _*_, _^_, _≤_, _<_}
 use mathlib.Core.List.{List, [], _∷_}
-use mathlib.Core.Option.{none, some}
+use mathlib.Core.Option.{none}
 use mathlib.Core.Path.{_≡_, ap}
 use native.Mathlib.Decide.{decLt}
 use native.Mathlib.Omega.{arith}
 use lib.ListN.{length, drop}
 use Rattle.terms.specs.Refusal.{numberOf}
 use Rattle.terms.specs.declared.refusal.Refusal.{Refusal}
-use Rattle.terms.specs.declared.refusal.Refusal.the-variants.{Sizes, Unsound}
 use Rattle.record.specs.Bytes.{recordBytes}
 use Rattle.record.specs.Reading.{readingOf}
 use Rattle.record.specs.declared.Record.{Record}
@@ -22,7 +21,6 @@ use Rattle.stream.specs.Streamed.{tables, resultOf}
 use Rattle.stream.specs.declared.Stop.{Stop}
 use Rattle.stream.specs.declared.Stop.the-variants.{End, At}
 use Rattle.stream.specs.declared.Streamed.{Streamed}
-use Rattle.stream.specs.declared.totals.Totals.{Totals}
 use Rattle.wormstrand.specs.Pack.{packResult, PackedResult, lent}
 
 -- ---- a stream carries out fewer records than it has bytes

@@ -1,6 +1,6 @@
 -- `store::link::ask` meets its contract: each answer is the law of its case. Assumes nothing.
 use Rattle.store.proofs.Linking.{found-two, ask-barred, ask-first, ask-second, ask-neither}
-use Rattle.store.proofs.Finding.{named-both, named-barred, link-first, link-second, link-neither}
+use Rattle.find.proofs.Finding.{named-both, named-barred, link-first, link-second, link-neither}
 use native.Mathlib.Omega.{arith}
 use borrow.Author.Needs.{needs}
 use Rattle.store.proofs.link.ask.Statement.{statement}

@@ -1,7 +1,7 @@
 -- `store::link::link` meets its contract: each answer is the law of its case. Assumes nothing.
 use Rattle.store.proofs.Relating.{link-barred, already-first, already-second, link-joins, link-joined}
 use Rattle.store.proofs.Linking.{found-two}
-use Rattle.store.proofs.Finding.{named-both, named-barred, link-first, link-second, link-neither}
+use Rattle.find.proofs.Finding.{named-both, named-barred, link-first, link-second, link-neither}
 use native.Mathlib.Omega.{arith}
 use borrow.Author.Needs.{needs}
 use Rattle.store.proofs.link.link.Statement.{statement}

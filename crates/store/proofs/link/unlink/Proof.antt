@@ -1,6 +1,6 @@
 -- `store::link::unlink` meets its contract: each answer is the law of its case. Assumes nothing.
 use Rattle.store.proofs.Linking.{found-two, unlink-barred, unlink-first, unlink-second, unlink-neither}
-use Rattle.store.proofs.Finding.{named-both, named-barred, link-first, link-second, link-neither}
+use Rattle.find.proofs.Finding.{named-both, named-barred, link-first, link-second, link-neither}
 use native.Mathlib.Omega.{arith}
 use borrow.Author.Needs.{needs}
 use Rattle.store.proofs.link.unlink.Statement.{statement}
