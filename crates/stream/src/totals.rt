@@ -3,6 +3,8 @@ ghost use Rattle.stream.specs.Totals.{Forward, Small};
 use record::Kind;
 use terms::refusal::Answer;
 
+// Lent from C as two words in a row.
+#[repr(C)]
 pub struct Totals {
     pub accepted: u64,
     pub reversals: u64,

@@ -1,4 +1,4 @@
--- What an exported stream returns: the packing of the result that the stream promised, with its totals in a row. Assumes nothing.
+-- What an exported stream returns: the packing of the result that the stream promised. Assumes nothing.
 use Prim.Native.Nat.{ℕ, zero, suc, _+_, _*_, _^_, _≤_, _<_}
 use mathlib.Core.List.{List, [], _∷_}
 use mathlib.Core.Option.{none}
@@ -17,11 +17,11 @@ use Rattle.meaning.specs.Soundness.{Sound}
 use Rattle.meaning.specs.Day.{dayOf}
 use Rattle.meaning.specs.Promise.{Tables, Result, StreamLent, progress, StreamPromise}
 use Rattle.meaning.specs.Stream.{Day-records, readOn, readAll, recordsOf, Progress, carry, carryAll}
-use Rattle.stream.specs.Streamed.{tables, resultOf}
+use Rattle.stream.specs.Streamed.{resultOf}
 use Rattle.stream.specs.declared.Stop.{Stop}
 use Rattle.stream.specs.declared.Stop.the-variants.{End, At}
 use Rattle.stream.specs.declared.Streamed.{Streamed}
-use Rattle.wormstrand.specs.Pack.{packResult, PackedResult, lent}
+use Rattle.wormstrand.specs.Pack.{packResult, PackedResult}
 
 -- ---- a stream carries out fewer records than it has bytes
 read-few : (k : ℕ) (s : List ℕ) → length (readAll k s .records) ≤ k
@@ -62,14 +62,12 @@ pack-end s e = rw e (omega arith)
 pub pack-at : (s : Streamed) (why : Refusal) (r : ℕ) → s .stop ≡ At why → r ≡ numberOf why → r * 2 ^ 32 + s .carried ≡ packResult (resultOf s)
 pack-at s why r e f = rw (e, f) (omega arith)
 
--- ---- the totals in a row
-pub result-packed : (n C D : ℕ) (bytes store spare waiting answers ts : List ℕ) (s : Streamed) (store' spare' waiting' answers' : List ℕ) (r : ℕ)
-    → StreamPromise n C D bytes (lent store spare waiting answers ts) (resultOf s) (tables store' spare' waiting' answers' (s .totals))
-    → r ≡ packResult (resultOf s)
-    → PackedResult (λ a. StreamPromise n C D bytes (lent store spare waiting answers ts) a (lent store' spare' waiting' answers' (s .totals .accepted ∷ s .totals .reversals ∷ []))) r
-result-packed n C D bytes store spare waiting answers ts s store' spare' waiting' answers' r p e = record {
+-- ---- what is returned is the packing of what was promised
+pub result-packed : (n C D : ℕ) (bytes : List ℕ) (t t' : Tables) (s : Streamed) (r : ℕ)
+    → StreamPromise n C D bytes t (resultOf s) t' → r ≡ packResult (resultOf s) → PackedResult (λ a. StreamPromise n C D bytes t a t') r
+result-packed n C D bytes t t' s r p e = record {
   result = resultOf s;
-  small = carried-small n C D bytes (lent store spare waiting answers ts) (resultOf s) (tables store' spare' waiting' answers' (s .totals)) p;
+  small = carried-small n C D bytes t (resultOf s) t' p;
   packed = e;
   holds = p;
 }

@@ -1,14 +1,12 @@
 -- How an answer comes back to a caller from C or Rust: one number of 64 bits.
 use Prim.Native.Nat.{ℕ, _+_, _*_, _^_, _<_}
-use mathlib.Core.List.{List}
 use mathlib.Core.Option.{Option, none, some}
 use mathlib.Core.Path.{_≡_}
-use lib.ListN.{getD}
 use Rattle.terms.specs.Refusal.{numberOf, refusalOf, valueOf}
 use Rattle.terms.specs.declared.run.Run.{Run}
 use Rattle.terms.specs.declared.refusal.Refusal.{Refusal}
 use Rattle.terms.specs.declared.refusal.Answer.{Answer}
-use Rattle.meaning.specs.Promise.{Tables, Result}
+use Rattle.meaning.specs.Promise.{Result}
 
 -- a run named by two words
 abbrev pub named : ℕ → ℕ → Run
@@ -42,8 +40,3 @@ pub record PackedResult (P : Result → Type 0) (r : ℕ) : Type 0 where
   pub small : result .carried < 2 ^ 32
   pub packed : r ≡ packResult result
   pub holds : P result
-
--- the tables lent to a stream, with its two totals in a row: accepted links, then reversals
-abbrev pub lent : List ℕ → List ℕ → List ℕ → List ℕ → List ℕ → Tables
-lent store spare waiting answers totals =
-    record { store = store; spare = spare; waiting = waiting; answers = answers; accepted = getD totals 0 0; reversals = getD totals 1 0 }

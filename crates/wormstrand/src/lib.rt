@@ -4,8 +4,8 @@ ghost use Prim.Native.Nat.{_^_, _<_};
 ghost use mathlib.Core.Path.{_≡_};
 ghost use Rattle.meaning.specs.Calls.{openRun, closeRun, unlink, ask, reading};
 ghost use Rattle.meaning.specs.Promise.{Promise, EmptyPromise, LinkPromise, StreamPromise};
-ghost use Rattle.stream.specs.Streamed.{resultOf};
-ghost use Rattle.wormstrand.specs.Pack.{named, pack, Packed, packResult, PackedResult, lent};
+ghost use Rattle.stream.specs.Streamed.{tables, resultOf};
+ghost use Rattle.wormstrand.specs.Pack.{named, pack, Packed, packResult, PackedResult};
 use stream::Stop;
 use stream::Streamed;
 use stream::totals::Totals;
@@ -153,7 +153,36 @@ fn pack_result(streamed: Streamed) -> u64
     }
 }
 
-// C's struct of two totals is two words in a row.
+// What a stream's caller gets: the totals brought forward, and refusal and number in one.
+struct Brought {
+    totals: Totals,
+    packed: u64,
+}
+
+// The stream with its totals by value in and by value out: what the exported call does but for the lent totals.
+fn bring_forward(
+    n: usize,
+    c: usize,
+    d: usize,
+    store: &mut [u32],
+    spare: &mut [u32],
+    waiting: &mut [u32],
+    bytes: &[u8],
+    answers: &mut [u32],
+    totals: Totals,
+) -> Brought
+    ensures { λ r. ⌜ PackedResult (λ a. StreamPromise n c d (now (bytes .entry)) (tables (now (store .entry)) (now (spare .entry)) (now (waiting .entry)) (now (answers .entry)) totals) a (tables (now (store .exit)) (now (spare .exit)) (now (waiting .exit)) (now (answers .exit)) (r .totals))) (r .packed) ⌝ }
+{
+    let streamed = stream::stream(n, c, d, store, spare, waiting, bytes, answers, totals);
+    let after = streamed.totals;
+    let packed = pack_result(streamed);
+    Brought {
+        totals: after,
+        packed,
+    }
+}
+
+// The caller keeps the totals and lends them: they are brought forward in place.
 #[no_mangle]
 pub extern "C" fn ws_stream(
     n: usize,
@@ -164,16 +193,11 @@ pub extern "C" fn ws_stream(
     waiting: &mut [u32],
     bytes: &[u8],
     answers: &mut [u32],
-    totals: &mut [u64; 2],
+    totals: &mut Totals,
 ) -> u64
-    ensures { λ r. ⌜ PackedResult (λ a. StreamPromise n c d (now (bytes .entry)) (lent (now (store .entry)) (now (spare .entry)) (now (waiting .entry)) (now (answers .entry)) (now (totals .entry))) a (lent (now (store .exit)) (now (spare .exit)) (now (waiting .exit)) (now (answers .exit)) (now (totals .exit)))) r ⌝ }
+    ensures { λ r. ⌜ PackedResult (λ a. StreamPromise n c d (now (bytes .entry)) (tables (now (store .entry)) (now (spare .entry)) (now (waiting .entry)) (now (answers .entry)) (now (totals .entry))) a (tables (now (store .exit)) (now (spare .exit)) (now (waiting .exit)) (now (answers .exit)) (now (totals .exit)))) r ⌝ }
 {
-    let before = Totals {
-        accepted: totals[0],
-        reversals: totals[1],
-    };
-    let streamed = stream::stream(n, c, d, store, spare, waiting, bytes, answers, before);
-    let after = streamed.totals;
-    *totals = [after.accepted, after.reversals];
-    pack_result(streamed)
+    let r = bring_forward(n, c, d, store, spare, waiting, bytes, answers, *totals);
+    *totals = r.totals;
+    r.packed
 }
