@@ -160,6 +160,13 @@ fn an_unsound_store() {
     }
 }
 
+/// Each call on two runs refuses these two.
+fn assert_pair_refused(caller: &mut Caller, a: Run, b: Run, refusal: u32) {
+    for call in [Call::Link(a, b), Call::Unlink(a, b), Call::Ask(a, b)] {
+        assert_refused(caller, &call, refusal);
+    }
+}
+
 #[test]
 fn lines_that_are_none() {
     let mut caller = small();
@@ -168,9 +175,7 @@ fn lines_that_are_none() {
         assert_refused(&mut caller, &Call::Open(bad), 3);
         assert_refused(&mut caller, &Call::Close(bad), 3);
         for (a, b) in [(bad, run(1)), (run(1), bad), (bad, bad)] {
-            assert_refused(&mut caller, &Call::Link(a, b), 3);
-            assert_refused(&mut caller, &Call::Unlink(a, b), 3);
-            assert_refused(&mut caller, &Call::Ask(a, b), 3);
+            assert_pair_refused(&mut caller, a, b, 3);
         }
     }
     assert_eq!(caller.call(&Call::Open(Run::new(LINE_MAX, 0))), done(3));
@@ -180,9 +185,7 @@ fn lines_that_are_none() {
 fn the_same_run_twice_open_or_not() {
     let mut caller = small();
     for same in [run(0), run(9)] {
-        assert_refused(&mut caller, &Call::Link(same, same), 4);
-        assert_refused(&mut caller, &Call::Unlink(same, same), 4);
-        assert_refused(&mut caller, &Call::Ask(same, same), 4);
+        assert_pair_refused(&mut caller, same, same, 4);
     }
 }
 
@@ -191,9 +194,7 @@ fn runs_that_are_not_open() {
     let mut caller = small();
     assert_refused(&mut caller, &Call::Close(run(9)), 5);
     for (a, b) in [(run(0), run(9)), (run(9), run(0)), (run(8), run(9))] {
-        assert_refused(&mut caller, &Call::Link(a, b), 5);
-        assert_refused(&mut caller, &Call::Unlink(a, b), 5);
-        assert_refused(&mut caller, &Call::Ask(a, b), 5);
+        assert_pair_refused(&mut caller, a, b, 5);
     }
 }
 

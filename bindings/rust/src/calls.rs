@@ -2,6 +2,15 @@
 //!
 //! A refused call leaves every table as it was, with two exceptions. `TooDense` leaves the store as it was, and spare and waiting
 //! as an accepted link that began turning does. `WrongMark`, `WrongKind` and `CutShort` stop a stream, and the records before stand.
+//!
+//! ```
+//! use wormstrand::{calls, Outcome, Run, Sizes};
+//!
+//! let sizes = Sizes { n: 1, c: 1, d: 2 };
+//! let mut store = [0; 9];
+//! assert_eq!(calls::empty(sizes, &mut store), Outcome::Done(0));
+//! assert_eq!(calls::open(sizes, &mut store, Run { line: 1, trip: 100 }), Outcome::Done(0));
+//! ```
 
 // What the library asks of its caller is that no pointer is null, each is aligned and leads to as many words as its length says,
 // and the tables of one call do not overlap. Slices have all of that, so every function here is safe.

@@ -4,6 +4,14 @@ use std::error::Error;
 use std::fmt;
 
 /// Why a call is refused. A call makes its checks in the order of the numbers, but `BadSet` comes before `NotOpen`.
+///
+/// ```
+/// use wormstrand::{Refusal, Sizes, Store};
+///
+/// let refusal = Store::new(Sizes { n: 0, c: 16, d: 2 }).unwrap_err();
+/// assert_eq!((refusal, refusal.number()), (Refusal::Sizes, 1));
+/// assert_eq!(Refusal::Touched.to_string(), "a link touches the run (refusal 10)");
+/// ```
 #[derive(Clone, Copy, Debug, PartialEq, Eq, Hash)]
 #[repr(u8)]
 pub enum Refusal {
@@ -68,18 +76,18 @@ impl Refusal {
 
     fn words(self) -> &'static str {
         match self {
-            Refusal::Sizes => "a size is outside its limits or a table has a wrong length",
+            Refusal::Sizes => "a size is outside its limits, or a length or a total is wrong",
             Refusal::Unsound => "the store is not sound",
             Refusal::BadName => "a line is 0 or above 65,535",
             Refusal::SameRun => "both names are the same run",
             Refusal::NotOpen => "a run or a place is not open",
-            Refusal::Already => "already open or already linked",
+            Refusal::Already => "the run is already open or the link already there",
             Refusal::NoLink => "there is no such link",
             Refusal::NoRoom => "no place or no cell is free",
-            Refusal::TooDense => "the link is too dense",
+            Refusal::TooDense => "the runs are linked too densely for one more link",
             Refusal::Touched => "a link touches the run",
-            Refusal::WrongMark => "a record has no mark",
-            Refusal::WrongKind => "a record is of no kind",
+            Refusal::WrongMark => "a record does not begin with the mark",
+            Refusal::WrongKind => "a record has no known kind or one run too many",
             Refusal::CutShort => "a record is cut short",
             Refusal::BadSet => "the set has fewer than two places or does not rise",
         }

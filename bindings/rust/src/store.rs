@@ -9,6 +9,22 @@ use crate::stream::{Day, Totals};
 const RECORD_BYTES: usize = 15;
 
 /// A store that owns its tables, all of the lengths that its sizes ask for.
+///
+/// ```
+/// use wormstrand::{Refusal, Run, Sizes, Store};
+///
+/// let mut store = Store::new(Sizes { n: 8, c: 16, d: 2 })?;
+/// let (local, feeder) = (Run { line: 2, trip: 100 }, Run { line: 7, trip: 4012 });
+/// assert_eq!((store.open(local)?, store.open(feeder)?), (0, 1));
+/// store.link(local, feeder)?;
+/// assert_eq!(store.close(feeder), Err(Refusal::Touched));
+/// assert_eq!(store.reading(&[0, 1])?, 1);
+///
+/// // Its words can be kept elsewhere and taken up again.
+/// let again = Store::of(store.sizes(), store.words().to_vec())?;
+/// assert!(again.ask(feeder, local)?);
+/// # Ok::<(), Refusal>(())
+/// ```
 #[derive(Clone, Debug, PartialEq, Eq)]
 pub struct Store {
     sizes: Sizes,
@@ -80,6 +96,21 @@ impl Store {
 
     /// Carries out a day's records and brings the totals forward. Where the bytes or the totals are too large, `Sizes` stops it
     /// and nothing is carried out.
+    ///
+    /// ```
+    /// use wormstrand::{Refusal, Sizes, Store, Totals};
+    ///
+    /// // Lines 1 and 2 open their trip 100, and the two are linked.
+    /// let bytes = b"RN\x01\0\x01\0\0\0\x64\0\0\0\0\0\0\
+    ///               RN\x01\0\x02\0\0\0\x64\0\0\0\0\0\0\
+    ///               RN\x03\0\x01\0\0\0\x64\0\x02\0\0\0\x64";
+    /// let mut store = Store::new(Sizes { n: 8, c: 16, d: 2 })?;
+    /// let mut totals = Totals::default();
+    /// let day = store.stream(bytes, &mut totals);
+    /// assert_eq!(day.into_iter().collect::<Result<Vec<_>, _>>()?, [0, 1, 0]);
+    /// assert_eq!(totals, Totals { accepted: 1, reversals: 0 });
+    /// # Ok::<(), Refusal>(())
+    /// ```
     pub fn stream(&mut self, bytes: &[u8], totals: &mut Totals) -> Day {
         let mut answers = vec![0; 2 * (bytes.len() / RECORD_BYTES)];
         let Store { sizes, words, spare, waiting } = self;

@@ -45,39 +45,32 @@ fn what_stops_a_stream() {
     }
 }
 
+/// The sample on lent tables: refused with `Sizes`, and nothing is written.
+fn refused_whole(answer_words: usize, mut totals: Totals) {
+    let store = Store::new(SIZES).unwrap();
+    let (mut words, mut spare, mut waiting) = (store.words().to_vec(), vec![7; 4098], vec![7; 256]);
+    let (mut answers, before) = (vec![7; answer_words], totals);
+    let streamed = calls::stream(
+        SIZES,
+        &mut words,
+        &mut spare,
+        &mut waiting,
+        SAMPLE,
+        &mut answers,
+        &mut totals,
+    );
+    assert_eq!(streamed, Streamed { stop: Some(Refusal::Sizes), carried: 0 });
+    assert_eq!((answers, totals), (vec![7; answer_words], before));
+    assert_eq!((&words[..], spare, waiting), (store.words(), vec![7; 4098], vec![7; 256]));
+}
+
 #[test]
 fn streams_that_are_refused_whole() {
-    let store = Store::new(SIZES).unwrap();
-    let (mut words, mut spare, mut waiting) = (store.words().to_vec(), vec![0; 4098], vec![0; 256]);
-    let nothing = Streamed { stop: Some(Refusal::Sizes), carried: 0 };
     // One answer word too few.
-    let mut answers = [7; 31];
-    let mut totals = Totals::default();
-    let streamed = calls::stream(
-        SIZES,
-        &mut words,
-        &mut spare,
-        &mut waiting,
-        SAMPLE,
-        &mut answers,
-        &mut totals,
-    );
-    assert_eq!((streamed, answers), (nothing, [7; 31]));
+    refused_whole(31, Totals::default());
     // A total above 2^62.
-    let mut totals = Totals { accepted: 0, reversals: (1 << 62) + 1 };
-    let mut answers = [7; 32];
-    let streamed = calls::stream(
-        SIZES,
-        &mut words,
-        &mut spare,
-        &mut waiting,
-        SAMPLE,
-        &mut answers,
-        &mut totals,
-    );
-    assert_eq!((streamed, answers), (nothing, [7; 32]));
-    assert_eq!(totals, Totals { accepted: 0, reversals: (1 << 62) + 1 });
-    assert_eq!(words, store.words());
+    refused_whole(32, Totals { accepted: 0, reversals: (1 << 62) + 1 });
+    refused_whole(32, Totals { accepted: (1 << 62) + 1, reversals: 0 });
 }
 
 #[test]

@@ -6,14 +6,19 @@ use super::picks;
 use super::trouble;
 use crate::sizes::Sizes;
 
-/// Small stores, many of them damaged, read in every way.
-pub fn reads(maker: &mut Maker) {
+/// Begins with a small store of any kind.
+fn begin_small(maker: &mut Maker) {
     let sizes = Sizes {
         n: maker.random.between(1, 6),
         c: maker.random.between(1, 9),
         d: maker.random.between(2, 4),
     };
     maker.begin(sizes, Ground::Any);
+}
+
+/// Small stores, many of them damaged, read in every way.
+pub fn reads(maker: &mut Maker) {
+    begin_small(maker);
     for _ in 0..maker.random.between(10, 50) {
         trouble::call(maker, 50, picks::reads);
         // A store without runs has little to ask about.
@@ -25,12 +30,7 @@ pub fn reads(maker: &mut Maker) {
 
 /// Small stores, often full, on which runs come and go.
 pub fn writes(maker: &mut Maker) {
-    let sizes = Sizes {
-        n: maker.random.between(1, 6),
-        c: maker.random.between(1, 9),
-        d: maker.random.between(2, 4),
-    };
-    maker.begin(sizes, Ground::Any);
+    begin_small(maker);
     for _ in 0..maker.random.between(20, 100) {
         trouble::call(maker, 30, picks::writes);
     }
