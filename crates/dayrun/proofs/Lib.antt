@@ -1,2 +1,1 @@
--- Laws for dayrun's last line.
-pub mod Standings
+pub mod Days

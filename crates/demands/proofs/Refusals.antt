@@ -16,7 +16,7 @@ use Rattle.terms.specs.declared.refusal.Answer.{Answer}
 use Rattle.terms.specs.declared.refusal.Answer.the-variants.{Done, Refused}
 use Rattle.terms.specs.declared.refusal.Refusal.{Refusal}
 use Rattle.terms.specs.declared.refusal.Refusal.the-variants.{Sizes, Unsound, BadName, SameRun, NotOpen, Already, NoRoom, WrongMark, WrongKind, CutShort}
-use Rattle.record.specs.Bytes.{recordBytes, marked, kindOf, runAt}
+use Rattle.record.specs.Bytes.{recordBytes, kindAt, firstAt, secondAt, marked, kindOf, runAt}
 use Rattle.record.specs.Reading.{namesOne, checked, kinded, readingOf}
 use Rattle.record.specs.declared.Kind.{Kind}
 use Rattle.record.specs.declared.reader.KindByte.{KindByte}
@@ -181,14 +181,14 @@ checked-late k a b = go (namesOne k && not (sameRun b noRun))
 
 reading-late : (s : List ℕ) → Late (readingOf s)
 unfolding readingOf
-reading-late s = go (eqb (length s) 0) (ltb (length s) recordBytes) (not (marked s)) (kindOf (getD s 2 0))
+reading-late s = go (eqb (length s) 0) (ltb (length s) recordBytes) (not (marked s)) (kindOf (getD s kindAt 0))
   where
     go : (a b c : Bool) (k : KindByte)
-        → Late (cond a reading.End (cond b (reading.Refused CutShort) (cond c (reading.Refused WrongMark) (kinded k (runAt s 3) (runAt s 9)))))
+        → Late (cond a reading.End (cond b (reading.Refused CutShort) (cond c (reading.Refused WrongMark) (kinded k (runAt s firstAt) (runAt s secondAt)))))
     go true b c k = 0
     go false true c k = omega arith
     go false false true k = omega arith
-    go false false false (Known k) = checked-late k (runAt s 3) (runAt s 9)
+    go false false false (Known k) = checked-late k (runAt s firstAt) (runAt s secondAt)
     go false false false Unknown = omega arith
 
 nothing : (why : Refusal) → none ≡ some why → ⊥

@@ -4,15 +4,12 @@ use mathlib.Core.List.{List, [], _∷_, _++_, map}
 use mathlib.Core.Path.{_≡_, refl, sym, ap, _∙_, subst}
 use native.Mathlib.Omega.{arith}
 use Rattle.terms.specs.Refusal.{valueOf}
-use Rattle.terms.specs.Size.{InRoom, InLimit}
 use Rattle.meaning.specs.Soundness.{Sound}
 use Rattle.meaning.specs.Day.{Day, dayOf, emptyTable, emptyDay}
 use Rattle.meaning.specs.Calls.{Call, link, ask, call}
 use Rattle.meaning.specs.Stream.{callOf, recordsOf, taken, reversed}
 use Rattle.meaning.specs.Promise.{Holds}
-use Rattle.meaning.proofs.Kept.{empty-right}
-use Rattle.meaning.proofs.Crossing.{right-sound}
-use Rattle.meaning.proofs.EmptyDay.{empty-threaded, empty-day}
+use Rattle.meaning.proofs.EmptyDay.{empty-sound, empty-day}
 use Rattle.demands.specs.History.{after, accepted, reversals, calls}
 use Rattle.demands.specs.Tables.{Doing, single, stream, callsIn, allCalls, acceptedIn, reversedIn, allAccepted, allReversed, Does, Leads, TablesHold, TablesAsk, TablesShort, TablesBound, TablesDense}
 use Rattle.demands.proofs.Theorems.{yes-exactly, demand-3, never-dense}
@@ -36,12 +33,6 @@ leads-hold n C D w s (x ∷ xs) w' h =
     let k : Holds n C D (h .0) (after D (dayOf n C w) (callsIn x)) = does-hold n C D w x (h .0) (h .1) in
     subst (Holds n C D w') (ap (λ s. after D s (allCalls xs)) (k .day) ∙ sym (after-append D (dayOf n C w) (callsIn x) (allCalls xs)))
     (leads-hold n C D (h .0) (k .sound) xs w' (h .2))
-
--- the table that empty writes is sound, whatever the limit
-pub empty-sound : (n C D : ℕ) → InRoom n C → InLimit D → Sound n C D (emptyTable n C)
-empty-sound n C D R L =
-    let t = empty-threaded n C R in
-    right-sound n C D (emptyTable n C) L R (t .long) (t .reaches) (t .whole) (t .freed) (rw (empty-day n C R) (empty-right n C D))
 
 pub tables-hold : TablesHold
 tables-hold n C D xs w e =

@@ -1,5 +1,5 @@
 -- What a search that goes from the front shows: the first that passes is found, or none passes. Assumes nothing.
-use Prim.Native.Nat.{ℕ, _+_, _≤_, _<_}
+use Prim.Native.Nat.{ℕ, _+_, _≤_, _-_, _<_}
 use mathlib.Core.Bool.{Bool, true, false}
 use mathlib.Core.List.{List}
 use mathlib.Core.Path.{_≡_, refl, sym, ap, subst, _∙_}
@@ -11,13 +11,14 @@ use borrow.Author.Count.{below-more}
 use borrow.Author.Tests.{eq-eqb, ne-eqb, lt-ltb, le-ltb}
 use Rattle.terms.specs.Run.{sameRun}
 use Rattle.terms.specs.declared.run.Run.{Run}
-use Rattle.meaning.specs.Cells.{Cell, first}
+use Rattle.meaning.specs.Cells.{Cell, first, links}
 use Rattle.meaning.specs.Table.{headAt, nextAt, headOf, lengthOf, targetOf, nextOf}
 use Rattle.meaning.specs.Day.{Day, cellsOf, dayOf, placeOf, isOpen, lowest}
+use Rattle.meaning.proofs.Counts.{links-count}
 use Rattle.meaning.proofs.Lists.{each-length, first-each, none-each}
 use Rattle.meaning.proofs.Steps.{nth, cellAt, hookAt}
 use Rattle.meaning.proofs.Walks.{standing, walk-cells}
-use Rattle.meaning.proofs.Threaded.{Threaded, cell-walk, cell-next, cell-inside}
+use Rattle.meaning.proofs.Threaded.{Threaded, cell-walk, cell-next, cell-inside, length-most}
 use Rattle.table.specs.Within.{Within, AtCell, named}
 use Rattle.find.specs.Find.{Spotted, Absent, Seeks, Links, Found, Barred, Finds}
 use Rattle.find.specs.declared.Spot.{Spot}
@@ -152,3 +153,11 @@ found-open n C w p v e h = lt-ltb (placeOf (dayOf n C w) p) (length (dayOf n C w
 
 pub found-shut : (n C : ℕ) (w : List ℕ) (p : Run) (v : ℕ) → v ≡ placeOf (dayOf n C w) p → n ≤ v → isOpen (dayOf n C w) p ≡ false
 found-shut n C w p v e h = le-ltb (placeOf (dayOf n C w) p) (length (dayOf n C w .runs)) (rw (← e, each-length) h)
+
+-- the cells that are not free are the links
+module _ (n C : ℕ) (w : List ℕ) (T : Threaded n C w) (free : ℕ) (e : free ≡ lengthOf n C w n) where
+  pub free-fits : free ≤ C
+  free-fits = omega (arith, length-most n C w T n (omega arith))
+
+  pub rest-stands : C - free ≡ links (dayOf n C w .lists)
+  rest-stands = ap (λ (k : ℕ). C - k) e ∙ links-count n C w T

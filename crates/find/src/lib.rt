@@ -4,6 +4,7 @@ pub mod touch;
 
 ghost use Prim.Native.Nat.{_≤_, _<_};
 ghost use mathlib.Core.Path.{_≡_};
+ghost use Rattle.meaning.specs.Cells.{links};
 ghost use Rattle.meaning.specs.Day.{dayOf, placeOf, lowest};
 ghost use Rattle.meaning.proofs.Threaded.{Threaded};
 ghost use Rattle.find.specs.Find.{Seeks, Links, Finds};
@@ -41,6 +42,14 @@ pub fn free_place(store: &[u32], n: usize, c: usize) -> usize
         lowest += 1;
     }
     n
+}
+
+// The number of links that stand: every cell that is not free.
+pub fn standing(store: &[u32], n: usize, c: usize) -> usize
+    requires { ⌜ Threaded n c (now store) ⌝ }
+    ensures { λ r. ⌜ r ≡ links (dayOf n c (now (store .entry)) .lists) ⌝ }
+{
+    c - section::count(store, n, c, n)
 }
 
 // A link's cell, its position in the list counted from 0, and the position in the table of the word that names the cell.

@@ -22,7 +22,7 @@ use Rattle.meaning.proofs.Lists.{each-length}
 use Rattle.meaning.proofs.Right.{Right, outside, loop}
 use Rattle.meaning.proofs.Steps.{moved}
 use Rattle.meaning.proofs.Sums.{push-sum, same-ne}
-use Rattle.meaning.proofs.Threaded.{Threaded, sound-threaded, list-length, length-most}
+use Rattle.meaning.proofs.Threaded.{Threaded, sound-threaded, list-length}
 use Rattle.meaning.proofs.Turnings.{begun-waits}
 use Rattle.meaning.proofs.Waiting.{Waits, none-waits, push-list}
 use Rattle.lists.specs.Cell.{Shifts, Front}
@@ -48,15 +48,9 @@ pub add-words : (n C : ℕ) (w : List ℕ) (u v : ℕ) (k : Spot) (w' : List ℕ
 add-words n C w u v k w' f e = e ∙ ap (λ (p : ℕ). moved n C w n p u v) (f .position)
 
 -- ---- settling
-pub settle-free : (n C D u : ℕ) (s spare waiting : List ℕ) → Settling n C D u s spare waiting → (free : ℕ) → free ≡ lengthOf n C s n → free ≤ C
-settle-free n C D u s spare waiting q free e = omega (arith, length-most n C s (q .linked .threaded) n (omega arith))
-
-module _ (n C D u : ℕ) (s spare waiting : List ℕ) (q : Settling n C D u s spare waiting) (m free : ℕ) (e : free ≡ lengthOf n C s n) (f : m ≡ C - free) where
-  m-is : m ≡ links (listsOf n C s)
-  m-is = f ∙ (ap (λ (k : ℕ). C - k) e ∙ links-count n C s (q .linked .threaded))
-
+module _ (n C D u : ℕ) (s spare waiting : List ℕ) (q : Settling n C D u s spare waiting) (m : ℕ) (m-is : m ≡ links (listsOf n C s)) where
   pub settle-begins : Begins n C D m u s waiting
-  settle-begins = record { linked = q .linked; room = q .waiting-long; place = q .place; most = omega arith; waits = q .waits }
+  settle-begins = record { linked = q .linked; room = q .waiting-long; place = q .place; most = omega (arith, m-is, links-count n C s (q .linked .threaded)); waits = q .waits }
 
   module _ (r : Ended) (s' wt wt' : List ℕ) (en : Ends r n C D m u s s') (long : length wt ≡ n) (z : wt' ≡ replicate (length wt) 0) where
     zeros : wt' ≡ replicate n 0

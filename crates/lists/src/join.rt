@@ -35,7 +35,7 @@ fn settle(
     requires { ⌜ Settling n c d u (now store) (now spare) (now waiting) ⌝ }
     ensures { λ r. ⌜ Settles r n c d u (now (store .entry)) (now (spare .entry)) (now (store .exit)) (now (waiting .exit)) ⌝ }
 {
-    let links = c - section::count(store, n, c, n);
+    let links = find::standing(store, n, c);
     let ended = turning(store, waiting, n, c, d, links, u);
     whole::clear(waiting);
     match ended {

@@ -1,4 +1,4 @@
--- The table that empty writes is threaded and holds the day with no run and no link. Assumes sizes within their limits.
+-- The table that empty writes is sound and holds the day with no run and no link. Assumes sizes within their limits.
 use Prim.Native.Nat.{ℕ, zero, suc, _+_, _≤_, _<_}
 use mathlib.Core.Bool.{true, false}
 use mathlib.Core.List.{List, [], map}
@@ -8,17 +8,19 @@ use native.Mathlib.Numerals.{add-one}
 use native.Mathlib.Decide.{ℕ-discrete}
 use borrow.Author.Tests.{lt-ltb, le-ltb}
 use lib.Dec.{ltb}
-use Rattle.terms.specs.Size.{InRoom}
+use Rattle.terms.specs.Size.{InRoom, InLimit}
 use Rattle.terms.specs.Run.{noRun}
 use Rattle.meaning.specs.Table.{NONE, headOf, lengthOf, nextOf}
-use Rattle.meaning.specs.Soundness.{Reaches, lengths}
+use Rattle.meaning.specs.Soundness.{Reaches, lengths, Sound}
 use Rattle.meaning.specs.Day.{each, cells, cellsOf, dayOf, emptyTable, emptyDay}
 use Rattle.meaning.proofs.Lists.{each-same}
 use Rattle.meaning.proofs.Entries.{each-replicate, map-each}
 use Rattle.meaning.proofs.Walks.{standing, Walk, walk-reaches, walk-along, walk-cells}
 use Rattle.meaning.proofs.Threaded.{Threaded}
+use Rattle.meaning.proofs.Crossing.{right-sound}
 use Rattle.meaning.proofs.Effects.{same-day}
 use Rattle.meaning.proofs.Empty.{Emptied, empty-emptied}
+use Rattle.meaning.proofs.Kept.{empty-right}
 
 -- the free cells by position: 0, 1, .., and NONE behind the last
 free-at : ℕ → ℕ → ℕ
@@ -94,3 +96,9 @@ empty-threaded n C R = emptied-threaded n C (emptyTable n C) R (empty-emptied n 
 
 pub empty-day : (n C : ℕ) → InRoom n C → dayOf n C (emptyTable n C) ≡ emptyDay n C
 empty-day n C R = emptied-day n C (emptyTable n C) R (empty-emptied n C (R .cells-least))
+
+-- the table that empty writes is sound, whatever the limit
+pub empty-sound : (n C D : ℕ) → InRoom n C → InLimit D → Sound n C D (emptyTable n C)
+empty-sound n C D R L =
+    let t = empty-threaded n C R in
+    right-sound n C D (emptyTable n C) L R (t .long) (t .reaches) (t .whole) (t .freed) (rw (empty-day n C R) (empty-right n C D))

@@ -32,3 +32,4 @@ pub mod Handing
 pub mod Numbers
 pub mod Order
 pub mod Counts
+pub mod Streamed

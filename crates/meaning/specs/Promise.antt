@@ -6,6 +6,7 @@ use mathlib.Core.Option.{Option, none, some}
 use mathlib.Core.Path.{_≡_}
 use lib.ListN.{length, replicate}
 use Rattle.terms.specs.Size.{InRoom, storeWords, waitingWords, streamMost, totalMost}
+use Rattle.terms.specs.Refusal.{numberOf}
 use Rattle.terms.specs.declared.run.Run.{Run}
 use Rattle.terms.specs.declared.refusal.Answer.{Answer}
 use Rattle.terms.specs.declared.refusal.Answer.the-variants.{Done, Refused}
@@ -84,6 +85,11 @@ pub record StreamLent (n C D : ℕ) (bytes : List ℕ) (t : Tables) : Type 0 whe
 pub record Result : Type 0 where
   pub stop : Option Refusal
   pub carried : ℕ
+
+-- the refusal that stopped a stream as a number, 0 at the end of the bytes
+abbrev pub stopNumber : Option Refusal → ℕ
+stopNumber none = 0
+stopNumber (some why) = numberOf why
 
 -- a stream on a sound table, from the day that it holds
 abbrev pub progress : ℕ → ℕ → ℕ → List ℕ → Tables → Progress

@@ -5,13 +5,15 @@ use mathlib.Core.List.{List}
 use mathlib.Core.Path.{_≡_}
 use lib.ListN.{length, getD}
 use borrow.Author.Tests.{eq-eqb, ne-eqb, lt-ltb, le-ltb}
+use native.Mathlib.Decide.{ℕ-discrete, decLt}
 use native.Mathlib.Omega.{arith}
 use Rattle.terms.specs.Run.{sameRun, noRun}
 use Rattle.terms.specs.declared.run.Run.{Run}
 use Rattle.terms.specs.declared.refusal.Refusal.the-variants.{WrongMark, WrongKind, CutShort}
-use Rattle.record.specs.Bytes.{recordBytes, marked, kindOf, runAt}
+use Rattle.record.specs.Bytes.{recordBytes, kindAt, firstAt, secondAt, marked, kindOf, runAt}
 use Rattle.record.specs.Reading.{namesOne, checked, readingOf}
 use Rattle.record.specs.declared.Kind.{Kind}
+use Rattle.record.specs.declared.Record.{Record}
 use Rattle.record.specs.declared.reader.KindByte.the-variants.{Known, Unknown}
 use Rattle.record.specs.declared.reader.Reading.the-variants.{Whole, End, Refused}
 
@@ -43,11 +45,21 @@ module _ (s : List ℕ) where
   unfolding readingOf
   wrong-mark h m = rw (ne-eqb (length s) 0 (λ e. omega arith), le-ltb (length s) recordBytes h, m)
 
-  pub wrong-kind : recordBytes ≤ length s → marked s ≡ true → kindOf (getD s 2 0) ≡ Unknown → readingOf s ≡ Refused WrongKind
+  pub wrong-kind : recordBytes ≤ length s → marked s ≡ true → kindOf (getD s kindAt 0) ≡ Unknown → readingOf s ≡ Refused WrongKind
   unfolding readingOf
   wrong-kind h m e = rw (ne-eqb (length s) 0 (λ z. omega arith), le-ltb (length s) recordBytes h, m, e)
 
-  pub by-kind : (k : Kind) (a b : Run) → recordBytes ≤ length s → marked s ≡ true → kindOf (getD s 2 0) ≡ Known k
-      → a ≡ runAt s 3 → b ≡ runAt s 9 → readingOf s ≡ checked k a b
+  pub by-kind : (k : Kind) (a b : Run) → recordBytes ≤ length s → marked s ≡ true → kindOf (getD s kindAt 0) ≡ Known k
+      → a ≡ runAt s firstAt → b ≡ runAt s secondAt → readingOf s ≡ checked k a b
   unfolding readingOf
   by-kind k a b h m e p q = rw (ne-eqb (length s) 0 (λ z. omega arith), le-ltb (length s) recordBytes h, m, e, p, q)
+
+  -- a record is read only where fifteen bytes stand
+  pub whole-long : (r : Record) → readingOf s ≡ Whole r → recordBytes ≤ length s
+  whole-long r e = elim (decLt (length s) recordBytes) [
+    | yes h ↦ absurd (elim (ℕ-discrete (length s) 0) [
+      | yes z ↦ let a = at-end z in let q : _≡_ {A = ℕ} 0 1 = cc in omega arith
+      | no z ↦ let a = cut-short z h in let q : _≡_ {A = ℕ} 0 1 = cc in omega arith
+    ])
+    | no h ↦ omega (arith, h)
+  ]

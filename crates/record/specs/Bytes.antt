@@ -16,6 +16,16 @@ use Rattle.record.specs.declared.reader.KindByte.the-variants.{Known, Un
 abbrev pub recordBytes : ℕ
 recordBytes = 15
 
+-- where the kind and each run begin: after the mark, after the kind, after the first run
+abbrev pub kindAt : ℕ
+kindAt = 2
+
+abbrev pub firstAt : ℕ
+firstAt = 3
+
+abbrev pub secondAt : ℕ
+secondAt = 9
+
 -- the two-byte mark 0x52 0x4E
 abbrev pub mark : List ℕ
 mark = 0x52 ∷ 0x4E ∷ []

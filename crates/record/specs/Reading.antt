@@ -7,7 +7,7 @@ use lib.ListN.{length, getD}
 use Rattle.terms.specs.Run.{noRun, sameRun}
 use Rattle.terms.specs.declared.run.Run.{Run}
 use Rattle.terms.specs.declared.refusal.Refusal.the-variants.{WrongMark, WrongKind, CutShort}
-use Rattle.record.specs.Bytes.{recordBytes, marked, kindOf, runAt}
+use Rattle.record.specs.Bytes.{recordBytes, kindAt, firstAt, secondAt, marked, kindOf, runAt}
 use Rattle.record.specs.declared.Kind.{Kind}
 use Rattle.record.specs.declared.Kind.the-variants.{Open, Close, Link, Unlink, Ask}
 use Rattle.record.specs.declared.reader.KindByte.{KindByte}
@@ -38,4 +38,4 @@ readingOf s =
     cond (eqb (length s) 0) End
     (cond (ltb (length s) recordBytes) (Refused CutShort)
     (cond (not (marked s)) (Refused WrongMark)
-    (kinded (kindOf (getD s 2 0)) (runAt s 3) (runAt s 9))))
+    (kinded (kindOf (getD s kindAt 0)) (runAt s firstAt) (runAt s secondAt))))

@@ -68,4 +68,11 @@ impl Record {
 
     // The mark (2 bytes), the kind (1), line and trip number (2 and 4) of each run.
     pub const BYTES: usize = 15;
+
+    // Where the kind and each run begin.
+    pub const KIND_AT: usize = 2;
+
+    pub const FIRST_AT: usize = 3;
+
+    pub const SECOND_AT: usize = 9;
 }

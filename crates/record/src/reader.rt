@@ -97,9 +97,12 @@ pub fn read(rest: &[u8]) -> Reading
     if !is_marked(rest) {
         return Reading::Refused(Refusal::WrongMark);
     }
-    // The kind follows the mark; each run is six bytes long.
-    let KindByte::Known(kind) = kind_of(rest[2]) else {
+    let KindByte::Known(kind) = kind_of(rest[Record::KIND_AT]) else {
         return Reading::Refused(Refusal::WrongKind);
     };
-    checked_record(kind, run_at(rest, 3), run_at(rest, 9))
+    checked_record(
+        kind,
+        run_at(rest, Record::FIRST_AT),
+        run_at(rest, Record::SECOND_AT),
+    )
 }

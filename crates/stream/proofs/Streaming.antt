@@ -4,17 +4,18 @@ use mathlib.Core.Bool.{Bool, true, false}
 use mathlib.Core.List.{List, [], _∷_}
 use mathlib.Core.Option.{Option, none, some}
 use mathlib.Core.Path.{_≡_, refl, sym, ap, subst, _∙_}
-use native.Mathlib.Decide.{ℕ-discrete, decLt}
+use native.Mathlib.Decide.{ℕ-discrete}
 use native.Mathlib.Omega.{arith}
 use lib.ListN.{length, take, drop, length-drop, length-replicate}
 use lib.Seq.{take-all, drop-drop}
 use Rattle.terms.specs.Size.{storeWords, waitingWords, streamMost}
 use Rattle.terms.specs.declared.refusal.Refusal.{Refusal}
+use Rattle.record.specs.Bytes.{recordBytes}
 use Rattle.record.specs.Reading.{readingOf}
 use Rattle.record.specs.declared.Record.{Record}
 use Rattle.record.specs.declared.reader.Reading.{Reading}
 use Rattle.record.specs.declared.reader.Reading.the-variants.{Whole, End, Refused}
-use Rattle.record.proofs.Readings.{at-end, cut-short}
+use Rattle.record.proofs.Readings.{at-end, whole-long}
 use Rattle.meaning.specs.Soundness.{Sound}
 use Rattle.meaning.specs.Day.{Day, dayOf}
 use Rattle.meaning.specs.Stream.{Day-records, readOn, readAll, recordsOf, Progress, latest, carry, carryAll}
@@ -26,15 +27,6 @@ use Rattle.stream.specs.declared.totals.Totals.{Totals}
 
 -- ---- reading on
 module _ (s : List ℕ) where
-  pub whole-long : (r : Record) → readingOf s ≡ Whole r → 15 ≤ length s
-  whole-long r e = elim (decLt (length s) 15) [
-    | yes h ↦ absurd (elim (ℕ-discrete (length s) 0) [
-      | yes z ↦ let a = at-end s z in let q : _≡_ {A = ℕ} 0 1 = cc in omega arith
-      | no z ↦ let a = cut-short s z h in let q : _≡_ {A = ℕ} 0 1 = cc in omega arith
-    ])
-    | no h ↦ omega (arith, h)
-  ]
-
   pub refused-some : (why : Refusal) → readingOf s ≡ Refused why → 0 < length s
   refused-some why e = elim (ℕ-discrete (length s) 0) [
     | yes z ↦ let a = at-end s z in let q : _≡_ {A = ℕ} 0 1 = cc in absurd (omega arith)
@@ -44,17 +36,17 @@ module _ (s : List ℕ) where
   read-end : (k : ℕ) → readingOf s ≡ End → readAll k s ≡ record { records = []; stop = none }
   unfolding readAll
   read-end zero e = refl
-  read-end (suc k) e = ap (λ (x : Reading). readOn x (readAll k (drop 15 s))) e
+  read-end (suc k) e = ap (λ (x : Reading). readOn x (readAll k (drop recordBytes s))) e
 
   read-stop : (k : ℕ) (why : Refusal) → 0 < k → readingOf s ≡ Refused why → readAll k s ≡ record { records = []; stop = some why }
   unfolding readAll
   read-stop zero why h e = absurd (omega arith)
-  read-stop (suc k) why h e = ap (λ (x : Reading). readOn x (readAll k (drop 15 s))) e
+  read-stop (suc k) why h e = ap (λ (x : Reading). readOn x (readAll k (drop recordBytes s))) e
 
   read-on : (k j : ℕ) (r : Record) → k ≡ suc j → readingOf s ≡ Whole r
-      → readAll k s ≡ record { records = r ∷ readAll j (drop 15 s) .records; stop = readAll j (drop 15 s) .stop }
+      → readAll k s ≡ record { records = r ∷ readAll j (drop recordBytes s) .records; stop = readAll j (drop recordBytes s) .stop }
   unfolding readAll
-  read-on k j r h e = ap (λ (i : ℕ). readAll i s) h ∙ ap (λ (x : Reading). readOn x (readAll j (drop 15 s))) e
+  read-on k j r h e = ap (λ (i : ℕ). readAll i s) h ∙ ap (λ (x : Reading). readOn x (readAll j (drop recordBytes s))) e
 
 -- ---- where the stream stands; `turned` is the day as at entry of the last link that began turning
 abbrev pub reached : ℕ → ℕ → List ℕ → List ℕ → ℕ → Totals → Option Day → Progress
@@ -65,11 +57,11 @@ pub record Going (n C D : ℕ) (bytes : List ℕ) (t₀ : Tables) (store spare w
   pub turned : Option Day
   pub lent : Lent n C D store spare waiting
   pub sound : Sound n C D store
-  pub place : at ≡ 15 * carried
+  pub place : at ≡ recordBytes * carried
   pub within : at ≤ length bytes
   pub short : length bytes ≤ streamMost
   pub room : length answers ≡ length (t₀ .answers)
-  pub long : 2 * (length bytes / 15) ≤ length answers
+  pub long : 2 * (length bytes / recordBytes) ≤ length answers
   pub spared : SpareIs n C D turned (t₀ .spare) spare
   pub waited : waiting ≡ waitingThen n turned (t₀ .waiting)
   pub accepted : t .accepted ≤ 2 ^ 62 + carried
@@ -110,7 +102,7 @@ module _ (n C D : ℕ) (bytes : List ℕ) (t₀ : Tables) (store spare waiting a
     whole : readingOf (drop at bytes) ≡ Whole r
     whole = ap readingOf (sym rest-is) ∙ (sym eo ∙ er)
 
-    one-more : at + 15 ≤ length bytes
+    one-more : at + recordBytes ≤ length bytes
     one-more = omega (arith, whole-long (drop at bytes) r whole, length-drop at bytes, g .within)
 
     pub going-step : StepOk n C D store spare waiting answers carried t
@@ -122,7 +114,7 @@ module _ (n C D : ℕ) (bytes : List ℕ) (t₀ : Tables) (store spare waiting a
       reversals = omega (arith, g .reversals, one-more, g .place, g .short);
     }
 
-    pub going-few : (carried < 65535) × (at + 15 ≤ length bytes)
+    pub going-few : (carried < 65535) × (at + recordBytes ≤ length bytes)
     going-few = (omega (arith, one-more, g .place, g .short), one-more)
 
     module _ (store' spare' waiting' answers' : List ℕ) (t' : Totals)
@@ -161,13 +153,13 @@ module _ (n C D : ℕ) (bytes : List ℕ) (t₀ : Tables) (store spare waiting a
       fuel = omega (arith, one-more, g .place)
 
       step-read : readAll (length bytes - carried) (drop at bytes)
-          ≡ record { records = r ∷ readAll (length bytes - (carried + 1)) (drop (at + 15) bytes) .records; stop = readAll (length bytes - (carried + 1)) (drop (at + 15) bytes) .stop }
-      step-read = rw (← drop-drop 15 at bytes) (read-on (drop at bytes) (length bytes - carried) (length bytes - (carried + 1)) r fuel whole)
+          ≡ record { records = r ∷ readAll (length bytes - (carried + 1)) (drop (at + recordBytes) bytes) .records; stop = readAll (length bytes - (carried + 1)) (drop (at + recordBytes) bytes) .stop }
+      step-read = rw (← drop-drop recordBytes at bytes) (read-on (drop at bytes) (length bytes - carried) (length bytes - (carried + 1)) r fuel whole)
 
-      pub going-next : Going n C D bytes t₀ store' spare' waiting' answers' (at + 15) (carried + 1) t'
+      pub going-next : Going n C D bytes t₀ store' spare' waiting' answers' (at + recordBytes) (carried + 1) t'
       unfolding carryAll turned'
       going-next =
-          let next : List Record = readAll (length bytes - (carried + 1)) (drop (at + 15) bytes) .records in
+          let next : List Record = readAll (length bytes - (carried + 1)) (drop (at + recordBytes) bytes) .records in
           let eq : carryAll D (readAll (length bytes - carried) (drop at bytes) .records) (reached n C store answers carried t (g .turned))
           ≡ carryAll D next (reached n C store' answers' (carried + 1) t' turned')
           = ap (λ (x : Day-records). carryAll D (x .records) (reached n C store answers carried t (g .turned))) step-read ∙ ap (carryAll D next) forward in

@@ -4,9 +4,10 @@ pub mod carry;
 pub mod totals;
 
 ghost use Prim.Native.Nat.{_+_, _<_};
-ghost use Rattle.meaning.specs.Promise.{StreamLent, StreamCarries, StreamPromise};
+ghost use mathlib.Core.Path.{_≡_};
+ghost use Rattle.meaning.specs.Promise.{StreamLent, StreamCarries, StreamPromise, stopNumber};
 ghost use Rattle.meaning.specs.Soundness.{Sound};
-ghost use Rattle.stream.specs.Streamed.{tables, resultOf, Fitting, Stopped};
+ghost use Rattle.stream.specs.Streamed.{tables, stopOf, resultOf, Fitting, Stopped};
 ghost use Rattle.terms.specs.Tells.{Tells};
 use carry::step;
 use judge::Verdict;
@@ -22,6 +23,18 @@ use totals::Totals;
 pub enum Stop {
     End,
     At(Refusal),
+}
+
+impl Stop {
+    // The refusal's number, 0 at the end of the bytes.
+    pub fn number(self) -> u64
+        ensures { λ r. ⌜ r ≡ stopNumber (stopOf self) ⌝ }
+    {
+        match self {
+            Stop::End => 0,
+            Stop::At(why) => why.number(),
+        }
+    }
 }
 
 pub struct Streamed {

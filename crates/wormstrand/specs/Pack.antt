@@ -1,12 +1,11 @@
 -- How an answer comes back to a caller from C or Rust: one number of 64 bits.
 use Prim.Native.Nat.{ℕ, _+_, _*_, _^_, _<_}
-use mathlib.Core.Option.{Option, none, some}
 use mathlib.Core.Path.{_≡_}
-use Rattle.terms.specs.Refusal.{numberOf, refusalOf, valueOf}
+use Rattle.terms.specs.Refusal.{refusalOf, valueOf}
 use Rattle.terms.specs.declared.run.Run.{Run}
 use Rattle.terms.specs.declared.refusal.Refusal.{Refusal}
 use Rattle.terms.specs.declared.refusal.Answer.{Answer}
-use Rattle.meaning.specs.Promise.{Result}
+use Rattle.meaning.specs.Promise.{Result, stopNumber}
 
 -- a run named by two words
 abbrev pub named : ℕ → ℕ → Run
@@ -27,11 +26,7 @@ pub record Packed (P : Answer → Type 0) (r : ℕ) : Type 0 where
   pub packed : r ≡ pack answer
   pub holds : P answer
 
--- a stream's refusal, 0 at the end of the bytes, and the number of records carried out
-abbrev pub stopNumber : Option Refusal → ℕ
-stopNumber none = 0
-stopNumber (some why) = numberOf why
-
+-- a stream's refusal and the number of records carried out
 abbrev pub packResult : Result → ℕ
 packResult r = stopNumber (r .stop) * 2 ^ 32 + r .carried
 

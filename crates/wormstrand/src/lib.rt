@@ -6,7 +6,6 @@ ghost use Rattle.meaning.specs.Calls.{openRun, closeRun, unlink, ask, reading};
 ghost use Rattle.meaning.specs.Promise.{Promise, EmptyPromise, LinkPromise, StreamPromise};
 ghost use Rattle.stream.specs.Streamed.{tables, resultOf};
 ghost use Rattle.wormstrand.specs.Pack.{named, pack, Packed, packResult, PackedResult};
-use stream::Stop;
 use stream::Streamed;
 use stream::totals::Totals;
 use terms::refusal::Answer;
@@ -147,10 +146,7 @@ fn pack_result(streamed: Streamed) -> u64
     ensures { λ r. ⌜ r ≡ packResult (resultOf streamed) ⌝ }
 {
     let stop = streamed.stop;
-    match stop {
-        Stop::End => streamed.carried as u64,
-        Stop::At(why) => why.number() * NUMBERS + streamed.carried as u64,
-    }
+    stop.number() * NUMBERS + streamed.carried as u64
 }
 
 // What a stream's caller gets: the totals brought forward, and refusal and number in one.

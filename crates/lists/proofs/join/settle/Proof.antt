@@ -1,19 +1,15 @@
 -- `lists::join::settle` meets its contract: each way out is the law of its case. Assumes nothing.
-use mathlib.Core.Path.{_∙_, refl}
-use Rattle.lists.proofs.Joining.{settle-free, settle-begins, settle-done, settle-dense}
-use native.Mathlib.Omega.{arith}
+use mathlib.Core.Path.{_∙_}
+use Rattle.lists.proofs.Joining.{settle-begins, settle-done, settle-dense}
 use borrow.Author.Needs.{needs}
 use Rattle.lists.proofs.join.settle.Statement.{statement}
 use Rattle.lists.proofs.join.settle.Tie as tie
 
-count-requires : tie.Need-count-requires
-count-requires c κs = search needs
-
-sub-links : tie.Need-sub-links
-sub-links c = omega (arith, settle-free _ _ _ _ _ _ _ (c .before .before .before .before .before .pre) _ (c .count .ensures .0))
+standing-requires : tie.Need-standing-requires
+standing-requires c κs = search needs
 
 turning-requires : tie.Need-turning-requires
-turning-requires c κs = settle-begins _ _ _ _ _ _ _ (c .before .before .before .before .before .before .before .pre) _ _ (c .before .before .count .ensures .0) refl
+turning-requires c κs = settle-begins _ _ _ _ _ _ _ (c .before .before .before .before .before .before .before .pre) _ (c .before .before .standing .ensures)
 
 clear-requires : tie.Need-clear-requires
 clear-requires c κs = search needs
@@ -34,7 +30,7 @@ same-length-2 : tie.Need-same-length-2
 same-length-2 c = search needs
 
 returns : tie.Need-returns
-returns c = settle-dense _ _ _ _ _ _ _ (c .before .before .before .before .before .before .before .before .before .before .before .before .before .before .before .before .before .before .before .before .before .before .pre) _ _ (c .before .before .before .before .before .before .before .before .before .before .before .before .before .before .before .before .before .count .ensures .0) refl _ _ (c .before .before .before .before .before .before .before .before .before .before .before .before .before .before .turning .last .1 .0) _ (c .before .before .before .before .before .before .before .before .before .before .before .before .before .before .turning .ensures) (c .before .before .before .before .before .before .before .before .before .before .before .before .before .before .turning .kept .1 .0 ∙ c .before .before .before .before .before .before .before .before .before .before .before .before .before .before .before .before .before .before .before .before .before .before .pre .waiting-long) (c .before .before .before .before .before .before .before .before .clear .ensures) _ (c .before .before .before .before .enum-told .given .1) (c .before .before .copy .ensures)
+returns c = settle-dense _ _ _ _ _ _ _ (c .before .before .before .before .before .before .before .before .before .before .before .before .before .before .before .before .before .before .before .before .before .before .pre) _ (c .before .before .before .before .before .before .before .before .before .before .before .before .before .before .before .before .before .standing .ensures) _ _ (c .before .before .before .before .before .before .before .before .before .before .before .before .before .before .turning .last .1 .0) _ (c .before .before .before .before .before .before .before .before .before .before .before .before .before .before .turning .ensures) (c .before .before .before .before .before .before .before .before .before .before .before .before .before .before .turning .kept .1 .0 ∙ c .before .before .before .before .before .before .before .before .before .before .before .before .before .before .before .before .before .before .before .before .before .before .pre .waiting-long) (c .before .before .before .before .before .before .before .before .clear .ensures) _ (c .before .before .before .before .enum-told .given .1) (c .before .before .copy .ensures)
 
 same-length-3 : tie.Need-same-length-3
 same-length-3 c = search needs
@@ -43,14 +39,13 @@ same-length-4 : tie.Need-same-length-4
 same-length-4 c = search needs
 
 returns-2 : tie.Need-returns-2
-returns-2 c = settle-done _ _ _ _ _ _ _ (c .before .before .before .before .before .before .before .before .before .before .before .before .before .before .before .before .before .before .before .pre) _ _ (c .before .before .before .before .before .before .before .before .before .before .before .before .before .before .count .ensures .0) refl _ _ (c .before .before .before .before .before .before .before .before .before .before .before .turning .last .1 .0) _ (c .before .before .before .before .before .before .before .before .before .before .before .turning .ensures) (c .before .before .before .before .before .before .before .before .before .before .before .turning .kept .1 .0 ∙ c .before .before .before .before .before .before .before .before .before .before .before .before .before .before .before .before .before .before .before .pre .waiting-long) (c .before .before .before .before .before .clear .ensures) _ (c .before .ended .given .1)
+returns-2 c = settle-done _ _ _ _ _ _ _ (c .before .before .before .before .before .before .before .before .before .before .before .before .before .before .before .before .before .before .before .pre) _ (c .before .before .before .before .before .before .before .before .before .before .before .before .before .before .standing .ensures) _ _ (c .before .before .before .before .before .before .before .before .before .before .before .turning .last .1 .0) _ (c .before .before .before .before .before .before .before .before .before .before .before .turning .ensures) (c .before .before .before .before .before .before .before .before .before .before .before .turning .kept .1 .0 ∙ c .before .before .before .before .before .before .before .before .before .before .before .before .before .before .before .before .before .before .before .pre .waiting-long) (c .before .before .before .before .before .clear .ensures) _ (c .before .ended .given .1)
 
 pub settle-spec : {M : Type 1} → statement M
 settle-spec =
     tie.close
     (tie.spec
-    count-requires
-    sub-links
+    standing-requires
     turning-requires
     clear-requires
     enum-told
