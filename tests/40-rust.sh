@@ -1,6 +1,6 @@
 #!/usr/bin/env bash
 # The library from C and from Rust: the C example and the README's program, then the Rust crate's tests, document 01's p1 to p10
-# among them, and its example.
+# among them, and its example; last, that all that the benchmark times agree.
 set -euo pipefail
 cd "$(dirname "${BASH_SOURCE[0]}")/.."
 . tests/library.sh
@@ -30,3 +30,4 @@ cargo=(--quiet --release --offline --target "$target" --manifest-path bindings/r
 cargo test "${cargo[@]}"
 cargo run "${cargo[@]}" --example connections | diff - bindings/rust/examples/connections.out
 echo "rust: the Rust example agrees"
+cargo run "${cargo[@]/bindings\/rust/bench}" -- --check
