@@ -21,13 +21,18 @@ mod timing;
 mod work;
 
 use std::process::ExitCode;
+use std::time::Duration;
 
-use report::Measured;
+use measure::{Jobs, Measured, Ready};
+use report::Page;
+use timing::{timed, Turns};
 use work::Work;
 
 const SIZES: [usize; 4] = [64, 256, 1024, 4096];
-const DAY_SIZES: [usize; 3] = [256, 1024, 4096];
 const DAY_RECORDS: usize = 65535;
+/// The full tables whose judging is held to each other.
+const FULL_SIZES: [usize; 2] = [1024, 4096];
+const SECONDS: u64 = 90;
 
 const CHECK_SIZES: [usize; 2] = [64, 256];
 const CHECK_RECORDS: usize = 4096;
@@ -66,14 +71,16 @@ fn check() -> Result<String, String> {
 }
 
 fn page(machine: &str) -> Result<String, String> {
-    let (mut singles, mut days) = (Vec::new(), Vec::new());
-    for n in SIZES {
-        singles.push(measure::singles(&agreed(n, 0)?));
-    }
-    for n in DAY_SIZES {
-        days.push(measure::day_of(&agreed(n, DAY_RECORDS)?));
-    }
-    let [small, large] = report::FULL_SIZES;
-    let full = measure::full_tables(small, large);
-    Ok(report::page(machine, &Measured { singles, days, records: DAY_RECORDS, full }))
+    let works: Vec<Work> =
+        SIZES.into_iter().map(|n| agreed(n, DAY_RECORDS)).collect::<Result<_, _>>()?;
+    let ready: Vec<Ready> = works.iter().map(Ready::new).collect();
+    let full = FULL_SIZES.map(full::table);
+    let mut turns = Turns::default();
+    let jobs: Vec<Jobs> = ready.iter().map(|ready| ready.jobs(&mut turns)).collect();
+    let [small, large] =
+        [&full[0], &full[1]].map(|table| turns.add(move || timed(|| u64::from(table.judge()))));
+    let least = turns.rounds(Duration::from_secs(SECONDS));
+    let sizes: Vec<Measured> = jobs.iter().map(|jobs| jobs.measured(&least)).collect();
+    let full = [least.of(small), least.of(large)];
+    Ok(report::page(machine, &Page { sizes, records: DAY_RECORDS, full_sizes: FULL_SIZES, full }))
 }

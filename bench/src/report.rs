@@ -1,30 +1,28 @@
 //! The page: what was measured and the tables.
 
 use crate::account;
-use crate::measure::{Day, Singles, Times, KINDS};
-use crate::text::{grouped, percent, row, table, times_as_long};
+use crate::measure::{Measured, Times, KINDS};
+use crate::text::{grouped, row, table, times_as_long};
 use crate::work::{CELLS_PER_PLACE, LIMIT, LINKS_PER_PLACE};
 
-/// The full tables whose judging is held to each other.
-pub const FULL_SIZES: [usize; 2] = [1024, 4096];
-
 /// What was measured, in one run.
-pub struct Measured {
-    pub singles: Vec<Singles>,
-    pub days: Vec<Day>,
+pub struct Page {
+    pub sizes: Vec<Measured>,
+    /// The records of a day.
     pub records: usize,
-    /// The judge on the smaller and on the larger full table.
-    pub full: (f64, f64),
+    /// The full tables, and the judge on each of them.
+    pub full_sizes: [usize; 2],
+    pub full: [f64; 2],
 }
 
-pub fn page(machine: &str, measured: &Measured) -> String {
+pub fn page(machine: &str, page: &Page) -> String {
     let parts = [
         head(machine),
-        with_judge(&measured.singles),
-        without_judge(&measured.singles),
-        stream(measured),
-        judge(measured),
-        account::where_time_goes(&measured.singles, &measured.days),
+        with_judge(&page.sizes),
+        without_judge(&page.sizes),
+        stream(page),
+        judge(page),
+        account::where_time_goes(&page.sizes),
     ];
     parts.join("\n\n")
 }
@@ -61,14 +59,14 @@ const SINGLES_HEAD: [&str; 7] = [
     "library / hash set",
 ];
 
-fn with_judge(singles: &[Singles]) -> String {
+fn with_judge(sizes: &[Measured]) -> String {
     format!(
         "## With the judge's part\n\nOne single call. The library and plain Rust judge the whole table first.\n\n{}",
-        singles_table(singles, |times| times.single)
+        singles_table(sizes, |times| times.single)
     )
 }
 
-fn without_judge(singles: &[Singles]) -> String {
+fn without_judge(sizes: &[Measured]) -> String {
     format!(
         "## Without the judge's part
 
@@ -76,16 +74,16 @@ The same calls as the records of one stream, which judges once: the time of the 
 for each record. Reading the record and writing its answer are in it.
 
 {}",
-        singles_table(singles, |times| times.record)
+        singles_table(sizes, |times| times.record)
     )
 }
 
-fn singles_table(singles: &[Singles], time: impl Fn(&Times) -> f64) -> String {
+fn singles_table(sizes: &[Measured], time: impl Fn(&Times) -> f64) -> String {
     let mut rows = Vec::new();
-    for at in singles {
+    for at in sizes {
         for (kind, name) in KINDS.iter().enumerate() {
             let [library, plain, hashed] =
-                [&at.library, &at.plain, &at.hashed].map(|times| time(&times[kind]));
+                [&at.library, &at.plain, &at.hashed].map(|timed| time(&timed.calls[kind]));
             let mut cells = vec![grouped(at.n as f64), name.to_string()];
             cells.extend([library, plain, hashed].map(grouped));
             cells.extend([library / plain, library / hashed].map(times_as_long));
@@ -95,12 +93,13 @@ fn singles_table(singles: &[Singles], time: impl Fn(&Times) -> f64) -> String {
     table(&SINGLES_HEAD, &rows)
 }
 
-fn stream(measured: &Measured) -> String {
-    let rows = measured.days.iter().map(|day| {
-        let mut cells = vec![grouped(day.n as f64)];
-        cells.extend([day.library, day.second, day.plain, day.hashed].map(grouped));
-        let others = [day.second, day.plain, day.hashed];
-        cells.extend(others.map(|other| times_as_long(day.library / other)));
+fn stream(page: &Page) -> String {
+    let rows = page.sizes.iter().map(|at| {
+        let mut cells = vec![grouped(at.n as f64)];
+        let others = [at.second_day, at.plain.day, at.hashed.day];
+        cells.push(grouped(at.library.day));
+        cells.extend(others.map(grouped));
+        cells.extend(others.map(|other| times_as_long(at.library.day / other)));
         row(&cells)
     });
     let head = [
@@ -120,45 +119,48 @@ A day of {} records in one stream, for each record. Of 16 records 8 are asks, 6 
 by turns, and 1 an ask about a run that is not open.
 
 {}",
-        grouped(measured.records as f64),
+        grouped(page.records as f64),
         table(&head, &rows.collect::<Vec<_>>())
     )
 }
 
-fn judge(measured: &Measured) -> String {
-    let rows = measured.singles.iter().map(|at| {
+const JUDGE_HEAD: [&str; 7] = [
+    "n",
+    "library, once",
+    "plain Rust, once",
+    "library / plain Rust",
+    "library, in a row",
+    "plain Rust, in a row",
+    "library / plain Rust",
+];
+
+fn judge(page: &Page) -> String {
+    let rows = page.sizes.iter().map(|at| {
         let mut cells = vec![grouped(at.n as f64)];
-        cells.extend([at.library_judge, at.plain_judge].map(grouped));
-        cells.push(times_as_long(at.library_judge / at.plain_judge));
-        cells.extend(at.library.iter().map(|times| percent(at.library_judge / times.single)));
+        let (library, plain) = (&at.library_judge, &at.plain_judge);
+        for (library, plain) in [(library.once, plain.once), (library.in_a_row, plain.in_a_row)] {
+            cells.extend([library, plain].map(grouped));
+            cells.push(times_as_long(library / plain));
+        }
         row(&cells)
     });
-    let head = [
-        "n",
-        "library",
-        "plain Rust",
-        "library / plain Rust",
-        "of an ask",
-        "of a link",
-        "of an unlink",
-    ];
-    let (small, large) = measured.full;
-    let [few, many] = FULL_SIZES.map(|n| grouped(n as f64));
+    let [small, large] = page.full;
+    let [few, many] = page.full_sizes.map(|n| grouped(n as f64));
     format!(
         "## The judge alone
 
-The reading of a set without places, which is refused once the store is found sound; and what part of the library's single calls
-that is.
+The reading of a set without places, which is refused once the store is found sound: once between other work, and many times in a
+row on the same table, as the single calls above are timed.
 
-{}
+{table}
 
-On full tables, every place open and every cell in a list, the judge takes {} at n = {} and {} at n = {}: the ratio is **{}**.
-Four times the table should take four times as long, and at most 6 is asked.",
-        table(&head, &rows.collect::<Vec<_>>()),
-        grouped(small),
-        few,
-        grouped(large),
-        many,
-        times_as_long(large / small)
+On full tables, every place open and every cell in a list, the judge takes {small} at n = {few} and {large} at n = {many}: the
+ratio is **{ratio}**. Four times the table should take four times as long, and at most 6 is asked.",
+        table = table(&JUDGE_HEAD, &rows.collect::<Vec<_>>()),
+        small = grouped(small),
+        few = few,
+        large = grouped(large),
+        many = many,
+        ratio = times_as_long(large / small)
     )
 }

@@ -22,7 +22,8 @@ pub fn times_as_long(ratio: f64) -> String {
 }
 
 pub fn percent(part: f64) -> String {
-    format!("{:.0} %", 100.0 * part)
+    let digits = if part < 0.1 { 2 } else { 0 };
+    format!("{:.*} %", digits, 100.0 * part)
 }
 
 pub fn row(cells: &[String]) -> String {

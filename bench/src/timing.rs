@@ -49,20 +49,22 @@ impl<'a> Turns<'a> {
         })
     }
 
-    /// Goes round until the seconds are over, and a few times at least.
-    pub fn rounds(self, seconds: u64) -> Least {
+    /// Goes round for some time, and a few times at least.
+    pub fn rounds(self, time: Duration) -> Least {
         let began = Instant::now();
         let mut least: Vec<(Duration, u64)> = self.jobs.iter().map(|job| job()).collect();
         let mut rounds = 1;
-        while rounds < ROUNDS_LEAST || began.elapsed() < Duration::from_secs(seconds) {
-            for (job, (time, sum)) in self.jobs.iter().zip(&mut least) {
+        while rounds < ROUNDS_LEAST || began.elapsed() < time {
+            for (job, (shortest, sum)) in self.jobs.iter().zip(&mut least) {
                 let (took, again) = job();
                 assert_eq!(*sum, again, "the same work gives the same answers");
-                *time = took.min(*time);
+                *shortest = took.min(*shortest);
             }
             rounds += 1;
         }
-        Least { nanoseconds: least.iter().map(|(time, _)| time.as_nanos() as f64).collect() }
+        Least {
+            nanoseconds: least.iter().map(|(shortest, _)| shortest.as_nanos() as f64).collect(),
+        }
     }
 }
 

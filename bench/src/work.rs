@@ -13,8 +13,9 @@ pub const CELLS_PER_PLACE: usize = 4;
 /// Standing links for each place.
 pub const LINKS_PER_PLACE: usize = 2;
 
-/// Asks in a stream.
+/// Asks in a stream. Those about the first two places take so little that it needs more of them.
 const ASKS: usize = 2048;
+const NEAR_ASKS: usize = 32768;
 /// The calls of one kind that are done one by one, at most; all of them are done as records of a stream.
 const SINGLE: usize = 128;
 
@@ -54,7 +55,7 @@ impl Work {
         let table = maker.table();
         let asks = (0..ASKS).map(|_| maker.ask()).collect();
         let (a, b) = (maker.runs[0], maker.runs[1]);
-        let near_asks = vec![Call::Ask(a, b); ASKS];
+        let near_asks = vec![Call::Ask(a, b); NEAR_ASKS];
         let day = (0..records).map(|_| maker.record()).collect();
         let (links, unlinks) = Maker::at_table(n).changes();
         let sizes = Sizes { n, c: CELLS_PER_PLACE * n, d: LIMIT };
