@@ -16,8 +16,8 @@ fn each(sizes: &[Measured], number: impl Fn(&Measured) -> String) -> String {
 fn judge(sizes: &[Measured]) -> String {
     format!(
         "- **The judge.** Of an ask with the judge's part, judging is {} at n = {}. The judge reads the
-  whole table, so its time goes with the table and not with what the call does. In a row on the same table it goes faster where
-  the table is small, in plain Rust too: the processor comes to know where each list ends. Who has many calls hands them in as a
+  whole table, so its time goes with the table and not with what the call does. In a row on the same table it goes faster, most
+  where the table is small; plain Rust does as well, so that lies with the processor. Who has many calls hands them in as a
   stream, which judges once.
 - **Checks of indices.** Plain Rust checks each index as it runs. The library's are proved to be within, and its code has no such
   checks.",
@@ -53,10 +53,9 @@ fn average(numbers: &[u32]) -> f64 {
 
 fn day(sizes: &[Measured]) -> String {
     format!(
-        "- **A day.** Judging once is {} of a day's time at n = {}. The rest is the walk, the copies for links
-  that turn, and, for a close, the look through all cells for a link that touches the run.",
+        "- **A day.** Judging once is {} of a day's time. The rest is the walk, the copies for links that turn,
+  and, for a close, the look through all cells for a link that touches the run.",
         each(sizes, |at| percent(at.day_judge / at.library.day)),
-        each(sizes, |at| grouped(at.n as f64)),
     )
 }
 

@@ -31,17 +31,18 @@ fn head(machine: &str) -> String {
     format!(
         "# How long calls take
 
-Written by `bench/run.sh`, from one run; a time says something only beside the others of the same run. {machine}.
+Written by `bench/run.sh`, from one run; a time says something only beside the others of the same run. The machine: {machine}.
 
-All are given the same work, and before anything is timed they are held to the same answers and tables. C is {cells} times n and
-D is {limit}; every place is open and {links} links stand for each place; half of the asks are of linked runs. All times are
+All are given the same work, and before anything is timed they are held to the same answers, and those with tables to
+the same words. C is {cells} times n and
+D is {limit}; every place is open and {links} links stand for each place; about half of the asks are of linked runs. All times are
 nanoseconds, and each is the least of many rounds in which every way is timed once.
 
 - **library**: the proved calls, through `bindings/rust`.
 - **plain Rust**: the same procedure on the same tables with a judge of the same kind, nothing proved (`bench/src/plain`).
 - **hash set**: a hash set of pairs with a hash map of runs (`bench/src/hashed.rs`), which is what people would use instead. It
   has no limit and no tables, so it neither bounds a list nor judges anything.
-- **second**: the independent program, `second/`.",
+- **second**: the independent program, `second/`, with its checks for overflow.",
         machine = machine,
         cells = CELLS_PER_PLACE,
         limit = LIMIT,
@@ -115,8 +116,8 @@ fn stream(page: &Page) -> String {
     format!(
         "## The stream
 
-A day of {} records in one stream, for each record. Of 16 records 8 are asks, 6 links and unlinks by turns, 1 an open or a close
-by turns, and 1 an ask about a run that is not open.
+A day of {} records in one stream, for each record. On average 8 of 16 records are asks, 6 links and unlinks by turns, 1 an open or
+a close by turns, and 1 an ask about a run that is not open.
 
 {}",
         grouped(page.records as f64),

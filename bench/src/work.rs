@@ -129,7 +129,8 @@ impl Maker {
         Call::Ask(a, b)
     }
 
-    /// Of 16 records 8 are asks, 6 links and unlinks by turns, 1 an open or a close by turns, and 1 an ask about no open run.
+    /// On average 8 of 16 records are asks, 6 links and unlinks by turns, 1 an open or a close by turns, and 1 an ask about a
+    /// run that is not open.
     fn record(&mut self) -> Call {
         match self.random.below(16) {
             0..=7 => self.ask(),
