@@ -31,12 +31,12 @@ fn head(machine: &str) -> String {
     format!(
         "# How long calls take
 
-Written by `bench/run.sh`, from one run; a time says something only beside the others of the same run. The machine: {machine}.
+Written by `bench/run.sh`, from one run; a time says something only beside the others of the same run. The machine:
+{machine}.
 
-All are given the same work, and before anything is timed they are held to the same answers, and those with tables to
-the same words. C is {cells} times n and
-D is {limit}; every place is open and {links} links stand for each place; about half of the asks are of linked runs. All times are
-nanoseconds, and each is the least of many rounds in which every way is timed once.
+All are given the same work. Before anything is timed they are held to the same answers, and those with tables to the same words.
+C is {cells} times n and D is {limit}; every place is open and {links} links stand for each place; about half of the asks are of linked
+runs. All times are nanoseconds, and each is the least of many rounds in which every job is run once.
 
 - **library**: the proved calls, through `bindings/rust`.
 - **plain Rust**: the same procedure on the same tables with a judge of the same kind, nothing proved (`bench/src/plain`).
