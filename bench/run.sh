@@ -1,9 +1,20 @@
 #!/usr/bin/env bash
-# Times judging through the library. Not a test: a time says nothing on a machine where x86-64 code is emulated.
+# Times the library beside other ways to do the same, and writes docs/BENCH.md. Not a test: a time depends on what else runs. On
+# a machine that is not x86-64 all of them are built for x86-64 and run by the same emulator.
 set -euo pipefail
 cd "$(dirname "${BASH_SOURCE[0]}")/.."
 . tests/library.sh
 
-mkdir -p target/bench
-"${compile[@]}" bench/judge.c -o target/bench/judge "$archive"
-"${emulate[@]}" target/bench/judge
+model=$(sed -n 's/^model name[[:space:]]*: //p' /proc/cpuinfo | head -n 1)
+machine="${model:-no model named}, $(nproc) cores, $(uname -m)"
+if [ "$(uname -m)" != x86_64 ]; then
+    machine+="; all of it is x86-64 code, run by an emulator"
+    export CARGO_TARGET_X86_64_UNKNOWN_LINUX_GNU_LINKER=x86_64-linux-gnu-gcc
+    export CARGO_TARGET_X86_64_UNKNOWN_LINUX_GNU_RUNNER="qemu-x86_64 -L /usr/x86_64-linux-gnu"
+fi
+
+export CARGO_TARGET_DIR="$PWD/target/rust"
+cargo=(--quiet --release --offline --target x86_64-unknown-linux-gnu --manifest-path bench/Cargo.toml)
+cargo run "${cargo[@]}" -- "$machine" > target/bench.md
+mv target/bench.md docs/BENCH.md
+echo "bench: docs/BENCH.md is written"

@@ -1,6 +1,6 @@
 #!/usr/bin/env bash
 # The library from C and from Rust: the C example and the README's program, then the Rust crate's tests, document 01's p1 to p10
-# among them, and its example.
+# among them, and its example; last, that all that the benchmark times agree.
 set -euo pipefail
 cd "$(dirname "${BASH_SOURCE[0]}")/.."
 . tests/library.sh
@@ -19,3 +19,4 @@ crate=("${cargo_flags[@]}" --manifest-path bindings/rust/Cargo.toml)
 cargo test "${crate[@]}"
 cargo run "${crate[@]}" --example connections | diff - bindings/rust/examples/connections.out
 echo "rust: the Rust example agrees"
+cargo run "${cargo[@]/bindings\/rust/bench}" -- --check
