@@ -4,17 +4,14 @@
 set -euo pipefail
 cd "$(dirname "${BASH_SOURCE[0]}")/.."
 . tests/library.sh
+. tests/cargo.sh
 
 model=$(sed -n 's/^model name[[:space:]]*: //p' /proc/cpuinfo | head -n 1)
 machine="${model:-no model named}, $(nproc) cores, $(uname -m)"
 if [ "$(uname -m)" != x86_64 ]; then
     machine+="; all of it is x86-64 code, run by an emulator"
-    export CARGO_TARGET_X86_64_UNKNOWN_LINUX_GNU_LINKER=x86_64-linux-gnu-gcc
-    export CARGO_TARGET_X86_64_UNKNOWN_LINUX_GNU_RUNNER="qemu-x86_64 -L /usr/x86_64-linux-gnu"
 fi
 
-export CARGO_TARGET_DIR="$PWD/target/rust"
-cargo=(--quiet --release --offline --target x86_64-unknown-linux-gnu --manifest-path bench/Cargo.toml)
-cargo run "${cargo[@]}" -- "$machine" > target/bench.md
+cargo run "${cargo_flags[@]}" --manifest-path bench/Cargo.toml -- "$machine" > target/bench.md
 mv target/bench.md docs/BENCH.md
 echo "bench: docs/BENCH.md is written"

@@ -19,4 +19,4 @@ crate=("${cargo_flags[@]}" --manifest-path bindings/rust/Cargo.toml)
 cargo test "${crate[@]}"
 cargo run "${crate[@]}" --example connections | diff - bindings/rust/examples/connections.out
 echo "rust: the Rust example agrees"
-cargo run "${cargo[@]/bindings\/rust/bench}" -- --check
+cargo run "${cargo_flags[@]}" --manifest-path bench/Cargo.toml -- --check
