@@ -18,8 +18,9 @@ use Rattle.terms.proofs.Names.{not-bad}
 use Rattle.meaning.specs.Cells.{Cell, sum, same}
 use Rattle.meaning.specs.Day.{Day, runOf, placeOf, isOpen}
 use Rattle.meaning.specs.Calls.{ask, tests, firstRefusal, yes1}
+use Rattle.meaning.proofs.Same.{same-eq, same-ne}
 use Rattle.meaning.proofs.Right.{Right, pair}
-use Rattle.meaning.proofs.Sums.{same-eq, same-ne, Has, sum-ext, sum-le-in, sum-zero}
+use Rattle.meaning.proofs.Sums.{Has, sum-ext, sum-le-in, sum-zero}
 use Rattle.meaning.proofs.Finding.{Both, both-named, Failed, run-same, run-other, place-is}
 use Rattle.meaning.proofs.Kept.{linked-once, ends-open, call-case}
 use Rattle.demands.specs.History.{samePair, between, asked}

@@ -12,7 +12,8 @@ use Rattle.terms.proofs.Names.{same-refl, same-eq as run-eq}
 use Rattle.meaning.specs.Cells.{Cell, Lists, Weight, sum, same}
 use Rattle.meaning.specs.Day.{Day, runOf}
 use Rattle.meaning.specs.Calls.{yes1}
-use Rattle.meaning.proofs.Sums.{same-ne, Has, sum-le-in, sum-mem, sum-add, sum-ext, Even}
+use Rattle.meaning.proofs.Same.{same-ne}
+use Rattle.meaning.proofs.Sums.{Has, sum-le-in, sum-mem, sum-add, sum-ext, Even}
 use Rattle.demands.specs.History.{samePair, weigh, between, Directions, unsure, outward, differ, changed, disagree}
 
 -- ---- pairs

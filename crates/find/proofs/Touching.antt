@@ -12,11 +12,12 @@ use Rattle.meaning.specs.Table.{NONE, headOf, lengthOf, ownerOf, targetOf}
 use Rattle.meaning.specs.Cells.{Cell, Weight, list, rowSum, sum, same}
 use Rattle.meaning.specs.Day.{cells, cellsOf, dayOf}
 use Rattle.meaning.specs.Calls.{touched}
+use Rattle.meaning.proofs.Same.{same-eq, same-ne}
 use Rattle.meaning.proofs.Crossing.{row-of}
 use Rattle.meaning.proofs.Held.{held, held-within, along-at, parted}
 use Rattle.meaning.proofs.Lists.{each-length}
 use Rattle.meaning.proofs.Pairs.{rows-none, cell-part, cells-none}
-use Rattle.meaning.proofs.Sums.{same-eq, same-ne, rowSum-le, rowSum-one, row-le}
+use Rattle.meaning.proofs.Sums.{rowSum-le, rowSum-one, row-le}
 use Rattle.meaning.proofs.Threaded.{Threaded, list-length}
 use Rattle.meaning.proofs.Times.{times}
 

@@ -12,13 +12,14 @@ use Rattle.meaning.specs.Cells.{Cell, Lists, list, push, bare, aimed}
 use Rattle.meaning.specs.Table.{word, written, headOf, lengthOf, targetOf, nextOf}
 use Rattle.meaning.specs.Turning.{over, put, turn}
 use Rattle.meaning.specs.Day.{Day, dayOf, cells, cellsOf}
+use Rattle.meaning.proofs.Same.{same-comm, same-eq}
 use Rattle.meaning.proofs.Effects.{day-list, turning-moves, turning-day}
 use Rattle.meaning.proofs.Handing.{handed, handed-target, handed-bare, handed-even, handed-turn}
 use Rattle.meaning.proofs.Lists.{each-length}
 use Rattle.meaning.proofs.Moved.{Moves}
 use Rattle.meaning.proofs.Right.{outside, loop}
 use Rattle.meaning.proofs.Steps.{nth, moved}
-use Rattle.meaning.proofs.Sums.{Has, sum-mem, same-eq, same-comm, outside-even}
+use Rattle.meaning.proofs.Sums.{Has, sum-mem, outside-even}
 use Rattle.meaning.proofs.Threaded.{Threaded, cell-inside, list-length}
 use Rattle.meaning.proofs.Waiting.{Waits, hand-waits, hand-room}
 use Rattle.meaning.proofs.Words.{written-length, word-same, word-other}

@@ -15,13 +15,14 @@ use Rattle.meaning.specs.Table.{headOf, lengthOf}
 use Rattle.meaning.specs.Turning.{over, put, Ending, turning}
 use Rattle.meaning.specs.Day.{Day, dayOf, cellsOf}
 use Rattle.meaning.specs.Calls.{Outcome, ended, linkIn, doLink}
+use Rattle.meaning.proofs.Same.{same-ne}
 use Rattle.meaning.proofs.Counts.{links-count}
 use Rattle.meaning.proofs.Crossing.{sound-right}
 use Rattle.meaning.proofs.Effects.{same-day, day-list, free-first, free-length, link-moves, link-day}
 use Rattle.meaning.proofs.Lists.{each-length}
 use Rattle.meaning.proofs.Right.{Right, outside, loop}
 use Rattle.meaning.proofs.Steps.{moved}
-use Rattle.meaning.proofs.Sums.{push-sum, same-ne}
+use Rattle.meaning.proofs.Sums.{push-sum}
 use Rattle.meaning.proofs.Threaded.{Threaded, sound-threaded, list-length}
 use Rattle.meaning.proofs.Turnings.{begun-waits}
 use Rattle.meaning.proofs.Waiting.{Waits, none-waits, push-list}

@@ -8,7 +8,8 @@ use native.Mathlib.Omega.{arith}
 use lib.ListN.{length}
 use Rattle.meaning.specs.Table.{NONE}
 use Rattle.meaning.specs.Cells.{same}
-use Rattle.meaning.proofs.Times.{same-cases, same-self, times, Below}
+use Rattle.meaning.proofs.Same.{same-cases, same-self}
+use Rattle.meaning.proofs.Times.{times, Below}
 
 -- the first of a list, or NONE
 abbrev pub front : List ℕ → ℕ

@@ -14,13 +14,15 @@ use Rattle.meaning.specs.Table.{NONE, lineOf, numberOf, headOf, lengthOf
 use Rattle.meaning.specs.Cells.{Weight, list, rowSum, sum, same}
 use Rattle.meaning.specs.Soundness.{Named, Reaches, lengths, Along, Aims, Single, Sound}
 use Rattle.meaning.specs.Day.{runOf, cells, cellsOf, dayOf}
+use Rattle.meaning.proofs.Same.{same-cases, same-self}
 use Rattle.meaning.proofs.Lists.{each-length, each-at, each-past}
 use Rattle.meaning.proofs.Right.{outside, loop, shut, pair, Right}
 use Rattle.meaning.proofs.Judged.{Has, Alone}
-use Rattle.meaning.proofs.Times.{same-cases, same-self, times}
+use Rattle.meaning.proofs.Times.{times}
 use Rattle.meaning.proofs.Held.{held, along-at, along-all, parted}
 use Rattle.meaning.proofs.Rules.{cell-has, sound-judged}
-use Rattle.meaning.proofs.Pairs.{toward, row-part, rows-none, pair-rows, cellAt, cells-length, cell-part, cells-none, toward-cell, cell-toward, two-toward}
+use Rattle.meaning.proofs.Sums.{row-le}
+use Rattle.meaning.proofs.Pairs.{toward, rows-none, pair-rows, cellAt, cells-length, cell-part, cells-none, toward-cell, cell-toward, two-toward}
 
 module _ (n C : ℕ) (w : List ℕ) where
   -- the rows and the runs of the day
@@ -59,7 +61,7 @@ module _ (n C : ℕ) (w : List ℕ) where
       omega (
         arith,
         cell-part n C w (f v) (lengthOf n C w v) (headOf n C w v) j q,
-        row-part f (dayOf n C w .lists) v,
+        row-le f (dayOf n C w .lists) v,
         ap (rowSum (f v)) (row-of v p),
       )
 

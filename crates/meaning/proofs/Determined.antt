@@ -14,9 +14,10 @@ use Rattle.meaning.specs.Table.{NONE, word, lineOf, numberOf, headOf, le
 use Rattle.meaning.specs.Cells.{Cell}
 use Rattle.meaning.specs.Soundness.{Reaches, lengths, Along, Sound}
 use Rattle.meaning.specs.Day.{runOf, cells, cellsOf, dayOf}
+use Rattle.meaning.proofs.Same.{same-cases}
 use Rattle.meaning.proofs.Words.{words-equal}
 use Rattle.meaning.proofs.Lists.{each-at}
-use Rattle.meaning.proofs.Times.{same-cases, times}
+use Rattle.meaning.proofs.Times.{times}
 use Rattle.meaning.proofs.Chains.{chain-front, chain-next}
 use Rattle.meaning.proofs.Held.{steps, held, steps-length, cells-index, along-at, held-chain, held-owner, parted}
 

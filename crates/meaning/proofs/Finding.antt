@@ -18,9 +18,10 @@ use Rattle.terms.proofs.Names.{good-line, same-refl, same-eq as run-eq, same-ne
 use Rattle.meaning.specs.Cells.{Cell, Lists, list, without, seek, holds, rowSum, sum, same}
 use Rattle.meaning.specs.Day.{Day, runOf, placeOf, isOpen, lowest}
 use Rattle.meaning.specs.Calls.{Tests, pairTests, firstRefusal, linked, yes1}
+use Rattle.meaning.proofs.Same.{same-eq, same-ne}
 use Rattle.meaning.proofs.Lists.{first-passes, first-before, first-is}
 use Rattle.meaning.proofs.Right.{Right, pair}
-use Rattle.meaning.proofs.Sums.{same-eq, same-ne, sum-at, sum-add, sum-ext}
+use Rattle.meaning.proofs.Sums.{sum-at, sum-add, sum-ext}
 
 -- ---- links
 -- how often a list has a link to v

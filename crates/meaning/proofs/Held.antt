@@ -10,7 +10,8 @@ use lib.ListN.{length, length-append}
 use Rattle.meaning.specs.Table.{NONE, headOf, lengthOf, ownerOf, nextOf}
 use Rattle.meaning.specs.Soundness.{Reaches, lengths, Along}
 use Rattle.meaning.specs.Day.{cells}
-use Rattle.meaning.proofs.Times.{same-cases, same-self, times, times-append, Below, below-append, each-once}
+use Rattle.meaning.proofs.Same.{same-cases, same-self}
+use Rattle.meaning.proofs.Times.{times, times-append, Below, below-append, each-once}
 use Rattle.meaning.proofs.Chains.{Chain, chain-owner, chain-below, chain-once}
 
 module _ (n C : ℕ) (w : List ℕ) where

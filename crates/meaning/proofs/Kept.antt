@@ -21,8 +21,9 @@ use Rattle.meaning.specs.Cells.{Cell, Lists, Weight, list, push, without
 use Rattle.meaning.specs.Turning.{over, put, Ending, settled, dense, turning}
 use Rattle.meaning.specs.Day.{Day, runOf, placeOf, lowest, emptyDay}
 use Rattle.meaning.specs.Calls.{Call, openRun, closeRun, link, unlink, ask, reading, Outcome, done, refused, linked, touched, Tests, tests, firstRefusal, rename, ended, linkIn, doLink, cut, doUnlink, yes1, act, unless, call}
+use Rattle.meaning.proofs.Same.{same-comm, same-eq, same-le, same-ne}
 use Rattle.meaning.proofs.Right.{Right, outside, loop, shut, pair}
-use Rattle.meaning.proofs.Sums.{same-eq, same-ne, same-le, same-comm, rowSum-one, Has, sum-ext-in, sum-mem, sum-ext, set-le, push-sum, push-length, Even, pair-even, pair-comm}
+use Rattle.meaning.proofs.Sums.{rowSum-one, Has, sum-ext-in, sum-mem, sum-ext, set-le, push-sum, push-length, Even, pair-even, pair-comm}
 use Rattle.meaning.proofs.Waiting.{waits-none, none-waits}
 use Rattle.meaning.proofs.Turnings.{Ends, Stands, turning-rest, turning-stands, begun, begun-waits}
 use Rattle.meaning.proofs.Finding.{Failed, all-failed, Both, both-named, absent, lowest-free, linked-pair, without-le}

@@ -21,6 +21,7 @@ pub mod Moving
 pub mod Moved
 pub mod Effects
 pub mod Renamed
+pub mod Same
 pub mod Sums
 pub mod Waiting
 pub mod Turnings

@@ -5,91 +5,36 @@ use Prim.Native.Nat.{ℕ, zero, suc, _+_, _*_, _≤_, _<_}
 use mathlib.Core.List.{List, [], _∷_}
 use mathlib.Core.Logic.{⊎-elim}
 use mathlib.Core.Path.{_≡_, refl, sym, ap, _∙_}
-use native.Mathlib.Nat.{zero-mul, one-mul, mul-comm}
+use native.Mathlib.Nat.{mul-comm}
 use native.Mathlib.Omega.{arith}
 use lib.ListN.{length}
 use Rattle.meaning.specs.Table.{targetOf, nextOf}
 use Rattle.meaning.specs.Cells.{Cell, Lists, Weight, list, rowSum, sum, same}
 use Rattle.meaning.specs.Day.{cells}
+use Rattle.meaning.proofs.Same.{same-cases, same-self}
 use Rattle.meaning.proofs.Right.{pair}
-use Rattle.meaning.proofs.Times.{same-cases, same-self, times}
+use Rattle.meaning.proofs.Sums.{sum-add, sum-at, sum-ext}
+use Rattle.meaning.proofs.Times.{times}
 use Rattle.meaning.proofs.Held.{steps}
 
 -- how many links of a list go to place t
 abbrev pub toward : ℕ → List Cell → ℕ
 toward t l = rowSum (λ c. same t (c .target)) l
 
--- a row is a part of the sum
-pub row-part : (f : Weight) (ls : Lists) (v : ℕ) → rowSum (f v) (list ls v) ≤ sum f ls
-row-part f [] v = omega arith
-row-part f (l ∷ ls) zero = omega arith
-row-part f (l ∷ ls) (suc v) = omega (arith, row-part (λ u. f (suc u)) ls v)
-
 -- rows of nothing are a sum of nothing
 pub rows-none : (f : Weight) (ls : Lists) → ((v : ℕ) → v < length ls → rowSum (f v) (list ls v) ≡ 0) → sum f ls ≡ 0
 rows-none f [] h = refl
 rows-none f (l ∷ ls) h = omega (arith, h 0 (omega arith), rows-none (λ u. f (suc u)) ls (λ v p. h (suc v) (omega arith)))
 
-row-like : (f g : Cell → ℕ) → ((c : Cell) → f c ≡ g c) → (l : List Cell) → rowSum f l ≡ rowSum g l
-row-like f g h [] = refl
-row-like f g h (c ∷ l) = omega (arith, h c, row-like f g h l)
-
-sum-like : (f g : Weight) → ((v : ℕ) (c : Cell) → f v c ≡ g v c) → (ls : Lists) → sum f ls ≡ sum g ls
-sum-like f g h [] = refl
-sum-like f g h (l ∷ ls) = omega (arith, row-like (f 0) (g 0) (h 0) l, sum-like (λ u. f (suc u)) (λ u. g (suc u)) (λ u. h (suc u)) ls)
-
-row-both : (f g : Cell → ℕ) (l : List Cell) → rowSum (λ c. f c + g c) l ≡ rowSum f l + rowSum g l
-row-both f g [] = refl
-row-both f g (c ∷ l) = omega (arith, row-both f g l)
-
-sum-both : (f g : Weight) (ls : Lists) → sum (λ v c. f v c + g v c) ls ≡ sum f ls + sum g ls
-sum-both f g [] = refl
-sum-both f g (l ∷ ls) = omega (arith, row-both (f 0) (g 0) l, sum-both (λ u. f (suc u)) (λ u. g (suc u)) ls)
-
-row-zero : (f : Cell → ℕ) → ((c : Cell) → f c ≡ 0) → (l : List Cell) → rowSum f l ≡ 0
-row-zero f h [] = refl
-row-zero f h (c ∷ l) = omega (arith, h c, row-zero f h l)
-
-sum-zero : (f : Weight) → ((v : ℕ) (c : Cell) → f v c ≡ 0) → (ls : Lists) → sum f ls ≡ 0
-sum-zero f h [] = refl
-sum-zero f h (l ∷ ls) = omega (arith, row-zero (f 0) (h 0) l, sum-zero (λ u. f (suc u)) (λ u. h (suc u)) ls)
-
-same-out : (x : ℕ) (a b : ℕ) → (a ≡ b → ⊥) → same a b * x ≡ 0
-same-out x a b d = ⊎-elim (λ p. absurd (d (p .0))) (λ p. rw (p .1) (zero-mul x)) (same-cases a b)
-
-same-suc : (a b : ℕ) → same (suc a) (suc b) ≡ same a b
-same-suc a b =
-    ⊎-elim
-    (λ p. ⊎-elim (λ q. q .1 ∙ sym (p .1)) (λ q. absurd (q .0 (ap suc (p .0)))) (same-cases (suc a) (suc b)))
-    (λ p. ⊎-elim (λ q. let e = q .0 in absurd (p .0 (omega arith))) (λ q. q .1 ∙ sym (p .1)) (same-cases (suc a) (suc b)))
-    (same-cases a b)
-
--- what counts only in the list of p is counted there
-sum-at : (p : ℕ) (g : Cell → ℕ) (ls : Lists) → sum (λ v c. same p v * g c) ls ≡ rowSum g (list ls p)
-sum-at p g [] = refl
-sum-at zero g (l ∷ ls) =
-    omega (
-      arith,
-      row-like (λ c. same 0 0 * g c) g (λ c. rw (same-self 0) (one-mul (g c))) l,
-      sum-zero (λ v c. same 0 (suc v) * g c) (λ v c. same-out (g c) 0 (suc v) (λ e. omega arith)) ls,
-    )
-sum-at (suc p) g (l ∷ ls) =
-    omega (
-      arith,
-      row-zero (λ c. same (suc p) 0 * g c) (λ c. same-out (g c) (suc p) 0 (λ e. omega arith)) l,
-      sum-like (λ v c. same (suc p) (suc v) * g c) (λ v c. same p v * g c) (λ v c. ap (λ x. x * g c) (same-suc p v)) ls,
-      sum-at p g ls,
-    )
-
 -- the links between p and q
 pub pair-rows : (p q : ℕ) (ls : Lists) → sum (pair p q) ls ≡ toward q (list ls p) + toward p (list ls q)
 pair-rows p q ls =
-    sum-both (λ v c. same p v * same q (c .target)) (λ v c. same p (c .target) * same q v) ls
+    sum-add (λ v c. same p v * same q (c .target)) (λ v c. same p (c .target) * same q v) ls
     ∙ omega (
       arith,
-      sum-at p (λ c. same q (c .target)) ls,
-      sum-at q (λ c. same p (c .target)) ls,
-      sum-like (λ v c. same p (c .target) * same q v) (λ v c. same q v * same p (c .target)) (λ v c. mul-comm (same p (c .target)) (same q v)) ls,
+      sum-at (λ c. same q (c .target)) p ls,
+      sum-at (λ c. same p (c .target)) q ls,
+      sum-ext (λ v c. same p (c .target) * same q v) (λ v c. same q v * same p (c .target)) ls (λ v c. mul-comm (same p (c .target)) (same q v)),
     )
 
 module _ (n C : ℕ) (w : List ℕ) where

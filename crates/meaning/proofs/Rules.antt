@@ -11,8 +11,9 @@ use Rattle.terms.specs.Tells.{Tells}
 use Rattle.terms.proofs.Told.{tells-iff}
 use Rattle.meaning.specs.Table.{NONE, headOf, lengthOf, ownerOf, targetOf, nextOf}
 use Rattle.meaning.specs.Soundness.{Reaches, lengths, Along, Aims, Single, Sized, Sound}
+use Rattle.meaning.proofs.Same.{same-cases, same-self}
 use Rattle.meaning.proofs.Judged.{Aim, Walks, Has, Alone, Judged}
-use Rattle.meaning.proofs.Times.{same-cases, same-self, times}
+use Rattle.meaning.proofs.Times.{times}
 use Rattle.meaning.proofs.Chains.{chain-owner, chain-once}
 use Rattle.meaning.proofs.Held.{steps, held, reaches-chain, parted}
 use Rattle.meaning.proofs.Decided.{sized-dec, judged-dec}

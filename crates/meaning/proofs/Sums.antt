@@ -2,35 +2,14 @@
 -- A weight that is the same at both ends of a link keeps its sum under turning. Assumes nothing.
 use Prim.Native.Nat.{ℕ, zero, suc, _+_, _-_, _*_, _≤_, _<_}
 use mathlib.Core.List.{List, [], _∷_, List·Memᴰ, List·Memᴰ·head, List·Memᴰ·tail}
-use mathlib.Core.Path.{_≡_, refl, sym, ap, _∙_}
-use native.Mathlib.Decide.{ℕ-discrete}
+use mathlib.Core.Path.{_≡_, refl, _∙_}
 use native.Mathlib.Nat.{mul-comm}
 use native.Mathlib.Omega.{arith}
 use lib.ListN.{length, set, length-set}
-use borrow.Author.Tests.{eq-eqb, ne-eqb}
 use Rattle.meaning.specs.Cells.{Cell, Lists, Weight, aimed, list, push, bare, rowSum, sum, links, same}
 use Rattle.meaning.specs.Turning.{Work, hand, handAll, turn}
+use Rattle.meaning.proofs.Same.{same-eq, same-ne, same-suc}
 use Rattle.meaning.proofs.Right.{far, outside, pair}
-
-pub same-eq : (a b : ℕ) → a ≡ b → same a b ≡ 1
-unfolding same
-same-eq a b e = rw (same, eq-eqb a b e)
-
-pub same-ne : (a b : ℕ) → (a ≡ b → ⊥) → same a b ≡ 0
-unfolding same
-same-ne a b n = rw (same, ne-eqb a b n)
-
-pub same-le : (a b : ℕ) → same a b ≤ 1
-same-le a b = elim (ℕ-discrete a b) [ yes e ↦ omega (arith, same-eq a b e) | no n ↦ omega (arith, same-ne a b n) ]
-
-pub same-comm : (a b : ℕ) → same a b ≡ same b a
-same-comm a b = elim (ℕ-discrete a b) [ yes e ↦ rw e | no n ↦ same-ne a b n ∙ sym (same-ne b a (λ e. n (sym e))) ]
-
-pub same-suc : (a b : ℕ) → same (suc a) (suc b) ≡ same a b
-same-suc a b = elim (ℕ-discrete a b) [
-  | yes e ↦ same-eq (suc a) (suc b) (ap suc e) ∙ sym (same-eq a b e)
-  | no n ↦ same-ne (suc a) (suc b) (λ e. n (omega arith)) ∙ sym (same-ne a b n)
-]
 
 -- two weights compared: everywhere, or on the cells that stand
 pub rowSum-le-in : (g h : Cell → ℕ) (l : List Cell) → ((c : Cell) → List·Memᴰ c l → g c ≤ h c) → rowSum g l ≤ rowSum h l

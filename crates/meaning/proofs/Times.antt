@@ -1,30 +1,13 @@
 -- How often a number stands in a list, and the pigeonhole: a list of C numbers below C, none twice, has each once.
 -- Assumes nothing.
 use Prim.Native.Nat.{ℕ, zero, suc, _+_, _≤_, _<_}
-use mathlib.Core.Bool.{Bool, true, false}
 use mathlib.Core.List.{List, [], _∷_, _++_}
-use mathlib.Core.Logic.{_⊎_, inl, inr, ⊎-elim}
+use mathlib.Core.Logic.{_⊎_, ⊎-elim}
 use mathlib.Core.Path.{_≡_, refl, sym, _∙_, subst}
 use native.Mathlib.Omega.{arith}
-use lib.Dec.{eqb}
 use lib.ListN.{length}
-use borrow.Author.Tests.{eqb-true, eqb-false}
 use Rattle.meaning.specs.Cells.{same}
-
--- the two cases of `same`, with what each gives
-pub same-cases : (a b : ℕ) → ((a ≡ b) × (same a b ≡ 1)) ⊎ ((a ≡ b → ⊥) × (same a b ≡ 0))
-unfolding same
-same-cases a b = go (eqb a b) refl
-  where
-    is : (t : Bool) → eqb a b ≡ t → same a b ≡ elim t [ true ↦ 1 | false ↦ 0 ]
-    is t e = rw (same, e)
-
-    go : (t : Bool) → eqb a b ≡ t → ((a ≡ b) × (same a b ≡ 1)) ⊎ ((a ≡ b → ⊥) × (same a b ≡ 0))
-    go true e = inl (eqb-true a b e, is true e)
-    go false e = inr (eqb-false a b e, is false e)
-
-pub same-self : (a : ℕ) → same a a ≡ 1
-same-self a = ⊎-elim (λ p. p .1) (λ p. absurd (p .0 refl)) (same-cases a a)
+use Rattle.meaning.proofs.Same.{same-cases}
 
 -- how often k stands in a list
 unfoldable pub times : ℕ → List ℕ → ℕ

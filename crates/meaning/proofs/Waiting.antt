@@ -12,8 +12,9 @@ use lib.Seq.{getD-set-same, getD-set-other}
 use borrow.Author.Tests.{eqb-true, eqb-false, ltb-true, ltb-false}
 use Rattle.meaning.specs.Cells.{Cell, Lists, aimed, list, push, bare, sum, same}
 use Rattle.meaning.specs.Turning.{Work, over, put, hand, handAll, turn}
+use Rattle.meaning.proofs.Same.{same-eq, same-le, same-ne}
 use Rattle.meaning.proofs.Right.{outside}
-use Rattle.meaning.proofs.Sums.{same-eq, same-ne, same-le, push-length, bare-length, Near, near}
+use Rattle.meaning.proofs.Sums.{push-length, bare-length, Near, near}
 
 -- how often z waits
 abbrev pub count : ℕ → List ℕ → ℕ

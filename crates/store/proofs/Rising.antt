@@ -13,8 +13,8 @@ use lib.Seq.{drop-cons, drop-length, getD-set-same, getD-set-other}
 use borrow.Author.Tests.{lt-ltb, le-ltb, ltb-true}
 use Rattle.meaning.specs.Cells.{same}
 use Rattle.meaning.specs.Calls.{rising, inSet}
-use Rattle.meaning.proofs.Sums.{same-eq, same-ne, same-le}
 use Rattle.store.specs.Set.{AllBelow, Marks}
+use Rattle.meaning.proofs.Same.{same-eq, same-le, same-ne}
 
 -- two tests that must both pass
 pub and-false : (a b : Bool) → b ≡ false → (a && b) ≡ false
