@@ -3,6 +3,7 @@
 # a machine that is not x86-64 all of them are built for x86-64 and run by the same emulator.
 set -euo pipefail
 cd "$(dirname "${BASH_SOURCE[0]}")/.."
+tests/tools.sh
 . tests/library.sh
 . tests/cargo.sh
 

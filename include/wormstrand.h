@@ -35,7 +35,10 @@
 extern "C" {
 #endif
 
-/* Each refusal with the calls that give it. A call makes its checks in this order, but 14 comes before 5. */
+/*
+ * Each refusal with the calls that give it. A call makes its checks in this order, but 14 comes before 5; a stream's record is judged
+ * by 13, 11 and 12, in that order, before 3 to 10.
+ */
 enum ws_refusal_number {
     WS_DONE = 0,
     WS_SIZES = 1,      /* every call: a size outside its limits, a table of wrong length, a stream too long, a total too large */

@@ -1,5 +1,5 @@
 #!/usr/bin/env bash
-# What the tests need beside rt: cargo and a C compiler; on a machine that is not x86-64 also what compiles and runs x86-64
+# What the tests need beside rt: cargo, a C compiler, and python3 for tools/day; on a machine that is not x86-64 also what compiles and runs x86-64
 # programs from C and Rust, since the library's archive is x86-64 code. Installed from Debian's packages only where it is missing.
 set -euo pipefail
 
@@ -13,6 +13,7 @@ builds_x86_64() { # RUSTC
 missing=()
 command -v cargo > /dev/null || missing+=(cargo rustc)
 command -v cc > /dev/null || missing+=(gcc libc6-dev)
+command -v python3 > /dev/null || missing+=(python3)
 if [ "$(uname -m)" != x86_64 ]; then
     command -v x86_64-linux-gnu-gcc > /dev/null || missing+=(gcc-x86-64-linux-gnu libc6-dev-amd64-cross)
     command -v qemu-x86_64 > /dev/null || missing+=(qemu-user)

@@ -156,7 +156,7 @@ row on the same table, as the single calls above are timed.
 {table}
 
 On full tables, every place open and every cell in a list, the judge takes {small} at n = {few} and {large} at n = {many}: the
-ratio is **{ratio}**. Four times the table should take four times as long, and at most 6 is asked.",
+ratio is **{ratio}**. Four times the table should take four times as long.",
         table = table(&JUDGE_HEAD, &rows.collect::<Vec<_>>()),
         small = grouped(small),
         few = few,

@@ -3,7 +3,8 @@
 use std::error::Error;
 use std::fmt;
 
-/// Why a call is refused. A call makes its checks in the order of the numbers, but `BadSet` comes before `NotOpen`.
+/// Why a call is refused. A call makes its checks in the order of the numbers, but `BadSet` comes before `NotOpen`; a stream's record
+/// is judged by `CutShort`, `WrongMark` and `WrongKind`, in that order, before the checks of its call.
 ///
 /// ```
 /// use wormstrand::{Refusal, Sizes, Store};

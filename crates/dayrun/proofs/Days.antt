@@ -18,7 +18,7 @@ use Rattle.meaning.proofs.Threaded.{Threaded, sound-threaded}
 use Rattle.stream.specs.Streamed.{tables, stopOf, resultOf}
 use Rattle.stream.specs.declared.Streamed.{Streamed}
 use Rattle.stream.specs.declared.totals.Totals.{Totals}
-use Rattle.dayrun.specs.Line.{places, cells, limit, bytesMost, answerWords, start, ranDay, Ends}
+use Rattle.dayrun.specs.Line.{places, cells, limit, bytesMost, answerWords, start, ranDay, DayEnds}
 use Rattle.dayrun.specs.declared.Ran.{Ran}
 
 room : InRoom places cells
@@ -28,7 +28,7 @@ limited : InLimit limit
 limited = record { least = omega arith; most = omega arith }
 
 -- at most one line for fifteen bytes, and two words for each
-module _ (bytes answers : List ℕ) (r : Ran) (answers' : List ℕ) (e : Ends bytes answers r answers') where
+module _ (bytes answers : List ℕ) (r : Ran) (answers' : List ℕ) (e : DayEnds bytes answers r answers') where
   pub lines-within : recordBytes * r .carried ≤ length bytes
   lines-within = omega (arith, e .carried, records-within limit bytes (start answers) refl)
 
@@ -65,7 +65,7 @@ module _ (bytes answers spare waiting w₀ w : List ℕ) (a : Answer) (none : To
   stands = sound-threaded places cells limit w' (carries .holds .sound)
 
   module _ (refusal standing : ℕ) (n : refusal ≡ stopNumber (stopOf (s .stop))) (l : standing ≡ links (dayOf places cells w' .lists)) where
-    pub ran : Ends bytes answers (record { refusal = refusal; carried = s .carried; reversals = s .totals .reversals; links = standing }) answers'
+    pub ran : DayEnds bytes answers (record { refusal = refusal; carried = s .carried; reversals = s .totals .reversals; links = standing }) answers'
     ran = record {
       refusal = n ∙ ap stopNumber (carries .stop);
       carried = carries .carried ∙ ap (λ (x : Progress). x .carried) day-empty;

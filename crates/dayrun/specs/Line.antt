@@ -1,4 +1,4 @@
--- Document 01, "Day records", dayrun: n = 256, C = 1,024, D = 4, at most 12,000 bytes; what its lines say.
+-- Document 01, "Examples", dayrun: its sizes, how it starts, what its lines say.
 use Prim.Native.Nat.{ℕ, _+_, _*_, _/_}
 use mathlib.Core.List.{List}
 use mathlib.Core.Option.{none}
@@ -12,6 +12,7 @@ use Rattle.meaning.specs.Stream.{recordsOf, Progress, carryAll}
 use Rattle.dayrun.specs.declared.Line.{Line}
 use Rattle.dayrun.specs.declared.Ran.{Ran}
 
+-- n = 256, C = 1,024, D = 4
 abbrev pub places : ℕ
 places = 256
 
@@ -21,6 +22,7 @@ cells = 1024
 abbrev pub limit : ℕ
 limit = 4
 
+-- above 12,000 bytes it prints only `end 1 0 0 0`
 abbrev pub bytesMost : ℕ
 bytesMost = 12000
 
@@ -37,12 +39,12 @@ abbrev pub ranDay : List ℕ → List ℕ → Progress
 ranDay bytes answers = carryAll limit (recordsOf bytes .records) (start answers)
 
 -- for each record carried out: position from 1, kind, refusal, number
-abbrev pub lineOf : List ℕ → List ℕ → ℕ → Line
-lineOf bytes answers i =
+abbrev pub printed : List ℕ → List ℕ → ℕ → Line
+printed bytes answers i =
     record { position = i + 1; kind = getD bytes (recordBytes * i + kindAt) 0; refusal = getD answers (2 * i) 0; number = getD answers (2 * i + 1) 0 }
 
 -- then the stream's refusal, records carried out, total reversals, standing links
-pub record Ends (bytes answers : List ℕ) (r : Ran) (answers' : List ℕ) : Type 0 where
+pub record DayEnds (bytes answers : List ℕ) (r : Ran) (answers' : List ℕ) : Type 0 where
   pub refusal : r .refusal ≡ stopNumber (recordsOf bytes .stop)
   pub carried : r .carried ≡ ranDay bytes answers .carried
   pub reversals : r .reversals ≡ ranDay bytes answers .reversals

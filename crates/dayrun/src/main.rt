@@ -1,9 +1,10 @@
 // The program dayrun: a day's records from standard input, carried out on an empty store of 256 places, 1,024 cells and limit 4.
-// It prints each record's outcome and how the day ended. It only reads, prints and calls: every number comes from the library.
+// It prints each record's outcome and how the day ended. It only reads, prints and calls: refusals, numbers and totals come from
+// the library, position and kind are those of the record.
 ghost use Prim.Native.Nat.{_+_, _*_, _≤_, _<_};
 ghost use lib.ListN.{length};
 ghost use mathlib.Core.Path.{_≡_};
-ghost use Rattle.dayrun.specs.Line.{bytesMost, answerWords, lineOf, Ends};
+ghost use Rattle.dayrun.specs.Line.{bytesMost, answerWords, printed, DayEnds};
 ghost use Rattle.record.specs.Bytes.{recordBytes, kindAt};
 use record::Record;
 use stream::totals::Totals;
@@ -17,7 +18,8 @@ const LIMIT: usize = 4;
 
 const BYTES: usize = 12000;
 
-// The store's words, and two words for each record that the bytes have room for.
+// The store's words, as a constant since an array's length can't be a call (the stream's contract holds it to its own), and two words
+// for each record that the bytes have room for.
 const STORE_WORDS: usize = 4 * PLACES + 2 + 3 * CELLS;
 
 const ANSWER_WORDS: usize = 2 * (BYTES / Record::BYTES);
@@ -40,7 +42,7 @@ struct Ran {
 
 fn record_line(bytes: &[u8], answers: &[u32], i: usize) -> Line
     requires { ⌜ (recordBytes * i + kindAt < length (now bytes)) × (2 * i + 1 < length (now answers)) ⌝ }
-    ensures { λ r. ⌜ r ≡ lineOf (now (bytes .entry)) (now (answers .entry)) i ⌝ }
+    ensures { λ r. ⌜ r ≡ printed (now (bytes .entry)) (now (answers .entry)) i ⌝ }
 {
     let kind = bytes[Record::BYTES * i + Record::KIND_AT];
     let refusal = answers[2 * i];
@@ -56,7 +58,7 @@ fn record_line(bytes: &[u8], answers: &[u32], i: usize) -> Line
 // The day on an empty store. Each record's refusal and number go to answers.
 fn run_day(bytes: &[u8], answers: &mut [u32]) -> Ran
     requires { ⌜ (length (now bytes) ≤ bytesMost) × (length (now answers) ≡ answerWords) ⌝ }
-    ensures { λ r. ⌜ Ends (now (bytes .entry)) (now (answers .entry)) r (now (answers .exit)) ⌝ }
+    ensures { λ r. ⌜ DayEnds (now (bytes .entry)) (now (answers .entry)) r (now (answers .exit)) ⌝ }
 {
     let mut store = [0u32; STORE_WORDS];
     let mut spare = [0u32; STORE_WORDS];

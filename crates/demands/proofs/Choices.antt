@@ -14,7 +14,11 @@ use Rattle.meaning.specs.Day.{Day, runOf}
 use Rattle.meaning.specs.Calls.{yes1}
 use Rattle.meaning.proofs.Same.{same-ne}
 use Rattle.meaning.proofs.Sums.{Has, sum-le-in, sum-mem, sum-add, sum-ext, Even}
-use Rattle.demands.specs.History.{samePair, weigh, between, Directions, unsure, outward, differ, changed, disagree}
+use Rattle.demands.specs.History.{samePair, weigh, between, Directions, unsure, outward, differ, changed}
+
+-- the links that stand in the list of the run they don't go outward at
+abbrev pub disagree : Directions → Day → ℕ
+disagree C s = weigh (λ x y. C y x) s
 
 -- ---- pairs
 pub yes-le : (b : Bool) → yes1 b ≤ 1

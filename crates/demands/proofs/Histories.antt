@@ -13,11 +13,16 @@ use Rattle.meaning.specs.Calls.{Call, openRun, closeRun, link, unlink, ask, rea
 use Rattle.meaning.proofs.Right.{Right}
 use Rattle.meaning.proofs.Finding.{either-false}
 use Rattle.meaning.proofs.Kept.{call-right, call-case}
-use Rattle.demands.specs.History.{after, accepts, samePair, joins, parts, related, joinings, partings, asked, taken, reversed, accepted, reversals, between, changed, disagree, calls, changes, final, Directions, History, AllDirected}
-use Rattle.demands.proofs.Choices.{yes-le, yes-pair-swaps}
+use Rattle.demands.specs.History.{after, accepts, samePair, joins, parts, related, joinings, partings, asked, taken, reversed, accepted, reversals, between, changed, calls, changes, Directions, History, AllDirected}
+use Rattle.demands.proofs.Choices.{disagree, yes-le, yes-pair-swaps}
 use Rattle.demands.proofs.Law.{call-law, comes-pair, goes-pair}
 use Rattle.demands.proofs.Asking.{asked-between}
 use Rattle.demands.proofs.Pays.{Pays, call-paid}
+
+-- the choice after the last call
+abbrev pub final : Directions → History → Directions
+final C [] = C
+final C (x ∷ h) = final (x .1) h
 
 pub after-right : (n D : ℕ) (s : Day) → Right n D s → (cs : List Call) → Right n D (after D s cs)
 after-right n D s ok [] = ok

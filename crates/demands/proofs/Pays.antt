@@ -22,8 +22,8 @@ use Rattle.meaning.proofs.Waiting.{none-waits}
 use Rattle.meaning.proofs.Turnings.{Ends, Settles, Stands, begun, begun-waits}
 use Rattle.meaning.proofs.Finding.{Both}
 use Rattle.meaning.proofs.Kept.{joined, run, link-run, joined-stands, new-link, call-case}
-use Rattle.demands.specs.History.{accepts, taken, reversed, weigh, Directions, unsure, outward, Directed, changed, disagree}
-use Rattle.demands.proofs.Choices.{by, by-even, unsure-swaps, outward-swaps, turned, turned-swaps, one-way, Fewer, fewer-pays}
+use Rattle.demands.specs.History.{accepts, taken, reversed, weigh, Directions, unsure, outward, Directed, changed}
+use Rattle.demands.proofs.Choices.{disagree, by, by-even, unsure-swaps, outward-swaps, turned, turned-swaps, one-way, Fewer, fewer-pays}
 use Rattle.demands.proofs.Potential.{holding, potential, Paid, turning-paid}
 use Rattle.demands.proofs.Law.{rename-weigh, cut-fewer, open-untouched, close-untouched}
 

@@ -1,6 +1,6 @@
 -- Demand 1 proved: what a refused call, stream or record leaves. Assumes nothing: the promises alone.
-use Prim.Native.Nat.{ℕ, zero, suc, _+_, _*_, _≤_}
-use mathlib.Core.Bool.{Bool, true, false, not, cond, _||_, _&&_}
+use Prim.Native.Nat.{ℕ, zero, suc, _+_, _≤_}
+use mathlib.Core.Bool.{Bool, true, false, not, cond, _&&_}
 use mathlib.Core.List.{List, [], _∷_}
 use mathlib.Core.Logic.{inl, inr}
 use mathlib.Core.Option.{Option, none, some}
@@ -9,13 +9,13 @@ use native.Mathlib.Omega.{arith}
 use native.Mathlib.Nat.{add-zero}
 use lib.Dec.{eqb, ltb}
 use lib.ListN.{length, drop, getD}
-use Rattle.terms.specs.Refusal.{numberOf, refusalOf, valueOf}
-use Rattle.terms.specs.Run.{noRun, badName, sameRun}
+use Rattle.terms.specs.Refusal.{numberOf}
+use Rattle.terms.specs.Run.{noRun, sameRun}
 use Rattle.terms.specs.declared.run.Run.{Run}
 use Rattle.terms.specs.declared.refusal.Answer.{Answer}
 use Rattle.terms.specs.declared.refusal.Answer.the-variants.{Done, Refused}
 use Rattle.terms.specs.declared.refusal.Refusal.{Refusal}
-use Rattle.terms.specs.declared.refusal.Refusal.the-variants.{Sizes, Unsound, BadName, SameRun, NotOpen, Already, NoRoom, WrongMark, WrongKind, CutShort}
+use Rattle.terms.specs.declared.refusal.Refusal.the-variants.{Sizes, Unsound, WrongMark, WrongKind, CutShort}
 use Rattle.record.specs.Bytes.{recordBytes, kindAt, firstAt, secondAt, marked, kindOf, runAt}
 use Rattle.record.specs.Reading.{namesOne, checked, kinded, readingOf}
 use Rattle.record.specs.declared.Kind.{Kind}
@@ -23,19 +23,18 @@ use Rattle.record.specs.declared.reader.KindByte.{KindByte}
 use Rattle.record.specs.declared.reader.KindByte.the-variants.{Known, Unknown}
 use Rattle.record.specs.declared.reader.Reading.{Reading}
 use Rattle.record.specs.declared.reader.Reading.the-variants as reading
-use Rattle.meaning.specs.Table.{written}
 use Rattle.meaning.specs.Cells.{Lists, push, list, holds, links}
 use Rattle.meaning.specs.Turning.{over, Ending, settled, dense, turning}
 use Rattle.meaning.specs.Soundness.{Sound}
-use Rattle.meaning.specs.Day.{Day, dayOf, placeOf, isOpen}
-use Rattle.meaning.specs.Calls.{Call, openRun, closeRun, link, unlink, ask, reading as readSet, Outcome, firstRefusal, tests, linked, done, ended, doLink, doUnlink, act, call}
-use Rattle.meaning.specs.Stream.{callOf, readOn, readAll, taken, reversed, Day-records}
+use Rattle.meaning.specs.Day.{Day, dayOf, placeOf}
+use Rattle.meaning.specs.Calls.{Call, openRun, closeRun, link, unlink, ask, reading as readSet, Outcome, Tests, firstRefusal, tests, done, ended, doLink, doUnlink, act, call}
+use Rattle.meaning.specs.Stream.{callOf, readOn, readAll, answered, taken, reversed, latest, Day-records}
 use Rattle.meaning.specs.Promise.{Carries, spareAfter, waitingAfter, Result}
 use Rattle.meaning.proofs.Decided.{sized-dec}
 use Rattle.meaning.proofs.Rules.{sound-or}
 use Rattle.meaning.proofs.Determined.{sound-determined}
 use Rattle.meaning.proofs.Kept.{call-case, link-run, run}
-use Rattle.demands.specs.Demands.{CallRefused, EmptyRefused, isDense, LinkRefused, StreamRefused, RecordRefused, Demand1}
+use Rattle.demands.specs.Demands.{CallRefused, EmptyRefused, isDense, LinkRefused, StreamRefused, StreamStopped, RecordRefused, Demand1}
 use Rattle.demands.proofs.Tight.{two-sized, lent-dec, stream-lent-dec}
 
 different : {A : Type 0} (k : ℕ) (why : Refusal) → Done k ≡ Refused why → A
@@ -105,15 +104,26 @@ abbrev dense-first : Option Refusal → Bool
 dense-first none = false
 dense-first (some why) = isDense why
 
--- none of the tests of a link is for too dense
-tests-sparse : (a b c d e : Bool)
-    → dense-first (firstRefusal ((a, BadName) ∷ (b, SameRun) ∷ (c, NotOpen) ∷ (d, Already) ∷ (e, NoRoom) ∷ [])) ≡ false
-tests-sparse true b c d e = refl
-tests-sparse false true c d e = refl
-tests-sparse false false true d e = refl
-tests-sparse false false false true e = refl
-tests-sparse false false false false true = refl
-tests-sparse false false false false false = refl
+-- no test is for too dense
+abbrev Sparse : Tests → Type 0
+Sparse [] = Unit {0}
+Sparse (t ∷ ts) = (isDense (t .1) ≡ false) × Sparse ts
+
+first-sparse : (ts : Tests) → Sparse ts → dense-first (firstRefusal ts) ≡ false
+first-sparse [] h = refl
+first-sparse (t ∷ ts) h = go (t .0) (first-sparse ts (h .1))
+  where
+    go : (b : Bool) → dense-first (firstRefusal ts) ≡ false → dense-first (elim b [ true ↦ some (t .1) | false ↦ firstRefusal ts ]) ≡ false
+    go true later = h .0
+    go false later = later
+
+tests-sparse : (s : Day) (q : Call) → Sparse (tests s q)
+tests-sparse s (openRun p) = (refl, (refl, (refl, tt)))
+tests-sparse s (closeRun p) = (refl, (refl, (refl, tt)))
+tests-sparse s (link p q) = (refl, (refl, (refl, (refl, (refl, tt)))))
+tests-sparse s (unlink p q) = (refl, (refl, (refl, (refl, tt))))
+tests-sparse s (ask p q) = (refl, (refl, (refl, tt)))
+tests-sparse s (readSet ps) = (refl, (refl, tt))
 
 module _ (D : ℕ) (s : Day) (why : Refusal) where
   Began : Outcome → Type 0
@@ -136,14 +146,29 @@ module _ (D : ℕ) (s : Day) (why : Refusal) where
       go true h = ended-began fs (turning D (links (push (s .lists) u (record { index = i; target = v }))) (push (s .lists) u (record { index = i; target = v })) (u ∷ []) 0) h
       go false h = different 0 why h
 
-  call-began : (p q : Run) → call D s (link p q) .answer ≡ Refused why → call D s (link p q) .began ≡ isDense why
+  unlink-began : (u v : ℕ) → Began (doUnlink s u v)
   unfolding Began
-  call-began p q = call-case Began D s (link p q) early (λ _. link-began (placeOf s p) (placeOf s q) (s .free))
+  unlink-began u v = go (holds v (list (s .lists) u)) refl
     where
-      early : (x : Refusal) → firstRefusal (tests s (link p q)) ≡ some x → Refused x ≡ Refused why → false ≡ isDense why
-      early x e h =
-          sym (tests-sparse (badName p || badName q) (sameRun p q) (not (isOpen s p) || not (isOpen s q)) (linked s (placeOf s p) (placeOf s q)) (eqb (length (s .free)) 0))
-          ∙ ap dense-first e ∙ ap dense-answer h
+      go : (b : Bool) → holds v (list (s .lists) u) ≡ b → doUnlink s u v .answer ≡ Refused why → doUnlink s u v .began ≡ isDense why
+      go true e h = different 0 why (rw (doUnlink, e) at h)
+      go false e h = different 0 why (rw (doUnlink, e) at h)
+
+  act-began : (q : Call) → Began (act D s q)
+  unfolding Began
+  act-began (openRun p) h = different _ why h
+  act-began (closeRun p) h = different _ why h
+  act-began (link p q) h = link-began (placeOf s p) (placeOf s q) (s .free) h
+  act-began (unlink p q) h = unlink-began (placeOf s p) (placeOf s q) h
+  act-began (ask p q) h = different _ why h
+  act-began (readSet ps) h = different _ why h
+
+  call-began : (q : Call) → call D s q .answer ≡ Refused why → call D s q .began ≡ isDense why
+  unfolding Began
+  call-began q = call-case Began D s q early (λ _. act-began q)
+    where
+      early : (x : Refusal) → firstRefusal (tests s q) ≡ some x → Refused x ≡ Refused why → false ≡ isDense why
+      early x e h = sym (first-sparse (tests s q) (tests-sparse s q)) ∙ ap dense-first e ∙ ap dense-answer h
 
 pub link-refused : LinkRefused
 link-refused n C D p q w spare waiting x xs xw why A =
@@ -153,7 +178,7 @@ link-refused n C D p q w spare waiting x xs xw why A =
         | inr h ↦ early Unsound refl (A .unsound l h)
         | inl s ↦
             let k = A .sound l s in
-            let b : call D (dayOf n C w) (link p q) .began ≡ isDense why = call-began D (dayOf n C w) why p q (sym (k .carries .answer)) in
+            let b : call D (dayOf n C w) (link p q) .began ≡ isDense why = call-began D (dayOf n C w) why (link p q) (sym (k .carries .answer)) in
             (carries-stays n C D (link p q) w why x s (k .carries), k .spared ∙ ap (λ (z : Bool). spareAfter z w spare) b, k .waited ∙ ap (λ (z : Bool). waitingAfter z n waiting) b)
       ]
     ]
@@ -223,6 +248,16 @@ stream-refused n C D bytes t t' r why A e small =
       ]
     ]
 
+pub stream-stopped : StreamStopped
+stream-stopped n C D bytes t t' r why A e large =
+    elim (stream-lent-dec n C D bytes t) [
+      | no h ↦ let z : numberOf Sizes ≡ numberOf why = ap number-first (sym (ap (λ (x : Result). x .stop) (A .sizes h .0)) ∙ e) in absurd (omega arith)
+      | yes l ↦ elim (sound-or n C D (t .store)) [
+        | inr h ↦ let z : numberOf Unsound ≡ numberOf why = ap number-first (sym (ap (λ (x : Result). x .stop) (A .unsound l h .0)) ∙ e) in absurd (omega arith)
+        | inl s ↦ A .sound l s
+      ]
+    ]
+
 -- ---- a record in a stream
 taken-refused : (q : Call) (why : Refusal) → taken q (Refused why) ≡ 0
 taken-refused (openRun p) why = refl
@@ -245,8 +280,10 @@ record-refused D p r why e = (
   call-stays D (p .day) why (callOf r) e,
   ap (λ (a : Answer). p .accepted + taken (callOf r) a) e ∙ ap (λ (x : ℕ). p .accepted + x) (taken-refused (callOf r) why) ∙ add-zero (p .accepted),
   ap (λ (a : Answer). p .reversals + reversed (callOf r) a) e ∙ ap (λ (x : ℕ). p .reversals + x) (reversed-refused (callOf r) why) ∙ add-zero (p .reversals),
-  ap (λ (a : Answer). written (written (p .answers) (2 * p .carried) (refusalOf a)) (2 * p .carried + 1) (valueOf a)) e,
+  ap (answered (p .answers) (p .carried)) e,
+  refl,
+  ap (λ (b : Bool). latest b (p .day) (p .turned)) (call-began D (p .day) why (callOf r) e),
 )
 
 pub demand-1 : Demand1
-demand-1 = (call-refused, empty-refused, link-refused, stream-refused, record-refused)
+demand-1 = (call-refused, empty-refused, link-refused, stream-refused, stream-stopped, record-refused)

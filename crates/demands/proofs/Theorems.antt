@@ -7,11 +7,12 @@ use native.Mathlib.Omega.{arith}
 use Rattle.terms.specs.declared.run.Run.{Run}
 use Rattle.meaning.specs.Day.{Day, emptyDay}
 use Rattle.meaning.proofs.Kept.{empty-right, empty-sum}
-use Rattle.demands.specs.History.{after, asked, accepted, reversals, disagree, calls, changes, final}
+use Rattle.demands.specs.History.{after, asked, accepted, reversals, calls, changes}
 use Rattle.demands.specs.Demands.{Yes, Count, Short, Demand2, Apart, Demand3, NeverDense}
 use Rattle.demands.proofs.Asking.{asked-between}
-use Rattle.demands.proofs.Histories.{after-right, related-from, count-from, apart-from, demand-3-from}
+use Rattle.demands.proofs.Histories.{final, after-right, related-from, count-from, apart-from, demand-3-from}
 use Rattle.demands.proofs.Dense.{never-dense-from}
+use Rattle.demands.proofs.Choices.{disagree}
 
 -- nothing is linked in the empty day
 empty-asked : (n C D : ℕ) (p q : Run) → asked D (emptyDay n C) p q ≡ 0

@@ -1,5 +1,5 @@
 -- The demands as statements: demand 1 about the contracts of the public calls, demands 2 and 3 over any calls from the empty day
--- with n places and C cells. proofs/Refusals.antt and proofs/Theorems.antt prove each.
+-- with n places and C cells. proofs/Refusals.antt, proofs/Theorems.antt and proofs/Streams.antt prove each.
 use Prim.Native.Nat.{ℕ, _+_, _-_, _*_, _/_, _≤_}
 use mathlib.Core.Bool.{Bool, false, _||_}
 use mathlib.Core.List.{List, map}
@@ -10,15 +10,14 @@ use lib.ListN.{length}
 use Rattle.terms.specs.Refusal.{numberOf}
 use Rattle.terms.specs.declared.run.Run.{Run}
 use Rattle.terms.specs.declared.refusal.Refusal.{Refusal}
-use Rattle.terms.specs.declared.refusal.Refusal.the-variants.{Unsound, TooDense}
+use Rattle.terms.specs.declared.refusal.Refusal.the-variants.{Unsound, TooDense, WrongMark}
 use Rattle.terms.specs.declared.refusal.Answer.the-variants.{Refused}
 use Rattle.record.specs.declared.Record.{Record}
-use Rattle.meaning.specs.Table.{written}
 use Rattle.meaning.specs.Cells.{list}
 use Rattle.meaning.specs.Day.{Day, emptyDay}
 use Rattle.meaning.specs.Calls.{Call, link, call, yes1}
-use Rattle.meaning.specs.Stream.{callOf, Progress, carry, carryAll}
-use Rattle.meaning.specs.Promise.{Promise, EmptyPromise, spareAfter, waitingAfter, LinkPromise, Tables, Result, StreamPromise}
+use Rattle.meaning.specs.Stream.{callOf, answered, latest, Progress, carry, carryAll}
+use Rattle.meaning.specs.Promise.{Promise, EmptyPromise, spareAfter, waitingAfter, LinkPromise, Tables, Result, StreamCarries, StreamPromise}
 use Rattle.demands.specs.History.{after, joins, parts, related, joinings, partings, asked, accepted, reversals, Directions, DirectedWith, History, calls, AllDirected, changes}
 
 -- demand 1: a refused call leaves the store unchanged: open, close, unlink, ask and reading of a set
@@ -42,14 +41,21 @@ abbrev pub StreamRefused : Type 0
 StreamRefused = (n C D : ℕ) (bytes : List ℕ) (t t' : Tables) (r : Result) (why : Refusal) → StreamPromise n C D bytes t r t'
     → r .stop ≡ some why → numberOf why ≤ numberOf Unsound → (r .carried ≡ 0) × (t' ≡ t)
 
--- a record refused in a stream leaves the day and both totals, and its two answer words are the refusal's number and 0
+-- a stream that a record stops keeps the records before: it did what its whole records say, and no more
+abbrev pub StreamStopped : Type 0
+StreamStopped = (n C D : ℕ) (bytes : List ℕ) (t t' : Tables) (r : Result) (why : Refusal) → StreamPromise n C D bytes t r t'
+    → r .stop ≡ some why → numberOf WrongMark ≤ numberOf why → StreamCarries n C D bytes t r t'
+
+-- a record refused in a stream leaves the day and both totals, its two answer words are the refusal's number and 0, and it counts as
+-- carried out; spare and waiting are then those of a link that began turning where it is too dense, else as they were
 abbrev pub RecordRefused : Type 0
 RecordRefused = (D : ℕ) (p : Progress) (r : Record) (why : Refusal) → call D (p .day) (callOf r) .answer ≡ Refused why
     → (carry D p r .day ≡ p .day) × (carry D p r .accepted ≡ p .accepted) × (carry D p r .reversals ≡ p .reversals)
-    × (carry D p r .answers ≡ written (written (p .answers) (2 * p .carried) (numberOf why)) (2 * p .carried + 1) 0)
+    × (carry D p r .answers ≡ answered (p .answers) (p .carried) (Refused why)) × (carry D p r .carried ≡ p .carried + 1)
+    × (carry D p r .turned ≡ latest (isDense why) (p .day) (p .turned))
 
 abbrev pub Demand1 : Type 0
-Demand1 = CallRefused × EmptyRefused × LinkRefused × StreamRefused × RecordRefused
+Demand1 = CallRefused × EmptyRefused × LinkRefused × StreamRefused × StreamStopped × RecordRefused
 
 -- demand 2: asking says yes exactly for the pairs accepted as links and not unlinked since
 abbrev pub Yes : Type 0

@@ -108,10 +108,6 @@ differ C C' x y = 1 - same (C x y) (C' x y) * same (C y x) (C' y x)
 abbrev pub changed : Directions → Directions → Day → Day → ℕ
 changed C C' s s' = weigh (λ x y. min 1 (between x y s) * differ C C' x y) s'
 
--- the links that stand in the list of the run they don't go outward at
-abbrev pub disagree : Directions → Day → ℕ
-disagree C s = weigh (λ x y. C y x) s
-
 -- a history: calls, each with a choice for the links that stand after it
 abbrev pub History : Type 0
 History = List (Call × Directions)
@@ -128,8 +124,3 @@ AllDirected d D s (x ∷ h) = let s' : Day = call D s (x .0) .after in Directed 
 abbrev pub changes : ℕ → Day → Directions → History → ℕ
 changes D s C [] = 0
 changes D s C (x ∷ h) = let s' : Day = call D s (x .0) .after in changed C (x .1) s s' + changes D s' (x .1) h
-
--- the choice after the last call
-abbrev pub final : Directions → History → Directions
-final C [] = C
-final C (x ∷ h) = final (x .1) h

@@ -17,15 +17,18 @@ use Rattle.meaning.specs.Stream.{callOf, recordsOf, taken, reversed}
 use Rattle.meaning.specs.Promise.{Holds, Carries, Tables, Result, StreamCarries}
 use Rattle.demands.specs.History.{after, related, Directions, DirectedWith, History, calls, AllDirected, changes}
 
--- a single call with its answer, or a stream with its bytes, its tables before, what it returns and its tables after
+-- a single call with its answer; a stream with its bytes, its tables before, what it returns and its tables after; or a call that is
+-- refused with 1 for its other tables or its bytes
 pub data Doing : Type 0 where
   single : Call → Answer → Doing
   stream : List ℕ → Tables → Result → Tables → Doing
+  refused : Doing
 
 -- records of a stream count as calls
 abbrev pub callsIn : Doing → List Call
 callsIn (single q a) = q ∷ []
 callsIn (stream bytes t r t') = map callOf (recordsOf bytes .records)
+callsIn refused = []
 
 abbrev pub allCalls : List Doing → List Call
 allCalls [] = []
@@ -35,10 +38,12 @@ allCalls (x ∷ xs) = callsIn x ++ allCalls xs
 abbrev pub acceptedIn : Doing → ℕ
 acceptedIn (single q a) = taken q a
 acceptedIn (stream bytes t r t') = t' .accepted - t .accepted
+acceptedIn refused = 0
 
 abbrev pub reversedIn : Doing → ℕ
 reversedIn (single q a) = reversed q a
 reversedIn (stream bytes t r t') = t' .reversals - t .reversals
+reversedIn refused = 0
 
 abbrev pub allAccepted : List Doing → ℕ
 allAccepted [] = 0
@@ -52,6 +57,7 @@ allReversed (x ∷ xs) = reversedIn x + allReversed xs
 abbrev pub Does : ℕ → ℕ → ℕ → List ℕ → Doing → List ℕ → Type 0
 Does n C D w (single q a) w' = Carries n C D q w a w'
 Does n C D w (stream bytes t r t') w' = StreamCarries n C D bytes t r t' × (t .store ≡ w) × (t' .store ≡ w')
+Does n C D w refused w' = w ≡ w'
 
 abbrev pub Leads : ℕ → ℕ → ℕ → List ℕ → List Doing → List ℕ → Type 0
 Leads n C D w [] w' = w ≡ w'

@@ -2,7 +2,7 @@
 use Prim.Native.Nat.{ℕ, _+_, _≤_, _-_, _<_}
 use mathlib.Core.Bool.{Bool, true, false}
 use mathlib.Core.List.{List}
-use mathlib.Core.Path.{_≡_, refl, sym, ap, subst, _∙_}
+use mathlib.Core.Path.{_≡_, sym, ap, subst, _∙_}
 use native.Mathlib.Numerals.{add-one}
 use native.Mathlib.Omega.{arith}
 use lib.Dec.{eqb}
@@ -82,9 +82,9 @@ module _ (n C : ℕ) (w : List ℕ) where
     pub none : (k : ℕ) → k < position → targetOf n C w (cellAt n C w v k) ≡ t → ⊥
 
   module _ (T : Threaded n C w) (v t : ℕ) (hv : v ≤ n) where
-    pub seeking-start : (many cell : ℕ) → many ≡ lengthOf n C w v → cell ≡ headOf n C w v → Seeking v t many cell (headAt n C v) 0
+    pub seeking-start : (many cell hook : ℕ) → many ≡ lengthOf n C w v → cell ≡ headOf n C w v → hook ≡ headAt n C v → Seeking v t many cell hook 0
     unfolding hookAt nth
-    seeking-start many cell e f = record { count = e; most = omega arith; here = f; names = refl; none = λ k h. absurd (omega arith) }
+    seeking-start many cell hook e f g = record { count = e; most = omega arith; here = f; names = g; none = λ k h. absurd (omega arith) }
 
     pub seeking-cell : (many cell hook position : ℕ) → Seeking v t many cell hook position → position < many → AtCell n C w cell
     seeking-cell many cell hook position i h = record {
@@ -92,14 +92,15 @@ module _ (n C : ℕ) (w : List ℕ) where
       cell = rw (i .here) (cell-inside n C w T v hv position (omega (arith, i .count)));
     }
 
-    pub seeking-more : (many cell hook position aim next : ℕ) → Seeking v t many cell hook position → position < many
-        → aim ≡ targetOf n C w cell → (aim ≡ t → ⊥) → next ≡ nextOf n C w cell → Seeking v t many next (nextAt n C cell) (position + 1)
+    pub seeking-more : (many cell hook position aim hook' next : ℕ) → Seeking v t many cell hook position → position < many
+        → aim ≡ targetOf n C w cell → (aim ≡ t → ⊥) → hook' ≡ nextAt n C cell → next ≡ nextOf n C w cell
+        → Seeking v t many next hook' (position + 1)
     unfolding hookAt
-    seeking-more many cell hook position aim next i h a d e = record {
+    seeking-more many cell hook position aim hook' next i h a d g e = record {
       count = i .count;
       most = omega arith;
       here = rw (add-one position) (e ∙ ap (nextOf n C w) (i .here) ∙ cell-next n C w T v hv position);
-      names = rw (add-one position) (ap (nextAt n C) (i .here));
+      names = rw (add-one position) (g ∙ ap (nextAt n C) (i .here));
       none = below-more (λ k. targetOf n C w (cellAt n C w v k) ≡ t → ⊥) position (i .none) (λ q. d (a ∙ ap (targetOf n C w) (i .here) ∙ q));
     }
 

@@ -71,7 +71,7 @@ pub fn seek(store: &[u32], n: usize, c: usize, v: usize, t: usize) -> Seen
 {
     let many = section::count(store, n, c, v);
     let mut cell = section::head(store, n, c, v);
-    let mut hook = 2 * n + v;
+    let mut hook = section::head_at(n, c, v);
     let mut position: usize = 0;
     while position < many {
         let aim = section::target(store, n, c, cell);
@@ -82,7 +82,7 @@ pub fn seek(store: &[u32], n: usize, c: usize, v: usize, t: usize) -> Seen
                 hook,
             });
         }
-        hook = 4 * n + 2 + 2 * c + cell;
+        hook = section::next_at(n, c, cell);
         cell = section::next(store, n, c, cell);
         position += 1;
     }

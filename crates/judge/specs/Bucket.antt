@@ -4,11 +4,12 @@ use Prim.Native.Nat.{ℕ, _+_, _*_, _%_, _-_, _≤_, _<_}
 use mathlib.Core.List.{List}
 use mathlib.Core.Path.{_≡_}
 use lib.ListN.{length, getD}
+use Rattle.terms.specs.Size.{placesMost}
 use Rattle.meaning.specs.Table.{lineOf, numberOf}
 
 -- as many as the judge has: twice as many as there can be places
 abbrev pub buckets : ℕ
-buckets = 8192
+buckets = 2 * placesMost
 
 -- the bucket of a place's name
 unfoldable pub bucketOf : ℕ → ℕ → List ℕ → ℕ → ℕ

@@ -1,5 +1,6 @@
 // The judge: whether the sizes are within their limits, the table has their length and is sound, for any words. It only reads,
-// ends on every table and stays inside it: chains are followed by their length words, never until they happen to end.
+// ends on every table and stays inside it: chains are followed by their length words, never until they happen to end. It knows no
+// call.
 ghost use Prim.Native.Nat.{ℕ, _<_};
 ghost use Rattle.judge.specs.Verdict.{Listed, Says};
 ghost use Rattle.meaning.proofs.Judged.{Judged};

@@ -15,10 +15,11 @@ pub fn front(store: &[u32], n: usize, c: usize, u: usize) -> Spot
     ensures { λ r. ⌜ Front r n c (now (store .entry)) u ⌝ }
 {
     let cell = section::head(store, n, c, u);
+    let hook = section::head_at(n, c, u);
     Spot {
         cell,
         position: 0,
-        hook: 2 * n + u,
+        hook,
     }
 }
 

@@ -23,6 +23,7 @@ pub mod Effects
 pub mod Renamed
 pub mod Same
 pub mod Sums
+pub mod Sets
 pub mod Waiting
 pub mod Turnings
 pub mod Finding

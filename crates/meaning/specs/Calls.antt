@@ -52,10 +52,14 @@ rising (p ∷ q ∷ ps) = ltb p q && rising (q ∷ ps)
 abbrev pub badSet : List ℕ → Bool
 badSet ps = ltb (length ps) 2 || not (rising ps)
 
--- every place of a set is below n and open
+-- a place is open; a place number of n or above isn't
+abbrev pub openPlace : Day → ℕ → Bool
+openPlace s p = ltb p (length (s .runs)) && not (eqb (runOf s p .line) 0)
+
+-- every place of a set is open
 abbrev pub allOpen : Day → List ℕ → Bool
 allOpen s [] = true
-allOpen s (p ∷ ps) = (ltb p (length (s .runs)) && not (eqb (runOf s p .line) 0)) && allOpen s ps
+allOpen s (p ∷ ps) = openPlace s p && allOpen s ps
 
 -- the tests of a call with their refusals, in the order in which they are made
 abbrev pub Tests : Type 0

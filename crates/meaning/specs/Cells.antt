@@ -52,6 +52,7 @@ holds t l = ltb (seek t l) (length l)
 abbrev pub Weight : Type 0
 Weight = ℕ → Cell → ℕ
 
+-- the sum over the links of one list
 abbrev pub rowSum : (Cell → ℕ) → List Cell → ℕ
 rowSum g [] = 0
 rowSum g (c ∷ l) = g c + rowSum g l

@@ -54,11 +54,13 @@ abbrev pub waitingAfter : Bool → ℕ → List ℕ → List ℕ
 waitingAfter true n waiting = replicate n 0
 waitingAfter false n waiting = waiting
 
+-- a link on a sound table: the call, and what it leaves of spare and waiting
 pub record LinkCarries (n C D : ℕ) (p q : Run) (w spare waiting : List ℕ) (a : Answer) (w' spare' waiting' : List ℕ) : Type 0 where
   pub carries : Carries n C D (link p q) w a w'
   pub spared : spare' ≡ spareAfter (call D (dayOf n C w) (link p q) .began) w spare
   pub waited : waiting' ≡ waitingAfter (call D (dayOf n C w) (link p q) .began) n waiting
 
+-- link: refusal 1, refusal 2, or the call on the day
 pub record LinkPromise (n C D : ℕ) (p q : Run) (w spare waiting : List ℕ) (a : Answer) (w' spare' waiting' : List ℕ) : Type 0 where
   pub sizes : (Lent n C D w spare waiting → ⊥) → (a ≡ Refused Sizes) × (w' ≡ w) × (spare' ≡ spare) × (waiting' ≡ waiting)
   pub unsound : Lent n C D w spare waiting → (Sound n C D w → ⊥) → (a ≡ Refused Unsound) × (w' ≡ w) × (spare' ≡ spare) × (waiting' ≡ waiting)
@@ -102,10 +104,12 @@ abbrev pub SpareIs : ℕ → ℕ → ℕ → Option Day → List ℕ → List �
 SpareIs n C D none spare spare' = spare' ≡ spare
 SpareIs n C D (some s) spare spare' = Holds n C D spare' s
 
+-- every word of waiting is 0 after a link that began turning
 abbrev pub waitingThen : ℕ → Option Day → List ℕ → List ℕ
 waitingThen n none waiting = waiting
 waitingThen n (some s) waiting = replicate n 0
 
+-- a stream on a sound table: what it returns, and every table and total as its records leave them
 pub record StreamCarries (n C D : ℕ) (bytes : List ℕ) (t : Tables) (r : Result) (t' : Tables) : Type 0 where
   pub stop : r .stop ≡ recordsOf bytes .stop
   pub carried : r .carried ≡ progress n C D bytes t .carried
@@ -116,6 +120,7 @@ pub record StreamCarries (n C D : ℕ) (bytes : List ℕ) (t : Tables) (r : Resu
   pub accepted : t' .accepted ≡ progress n C D bytes t .accepted
   pub reversals : t' .reversals ≡ progress n C D bytes t .reversals
 
+-- stream: refusal 1, refusal 2, or its records in turn
 pub record StreamPromise (n C D : ℕ) (bytes : List ℕ) (t : Tables) (r : Result) (t' : Tables) : Type 0 where
   pub sizes : (StreamLent n C D bytes t → ⊥) → (r ≡ record { stop = some Sizes; carried = 0 }) × (t' ≡ t)
   pub unsound : StreamLent n C D bytes t → (Sound n C D (t .store) → ⊥) → (r ≡ record { stop = some Unsound; carried = 0 }) × (t' ≡ t)

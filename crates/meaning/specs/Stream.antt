@@ -28,6 +28,7 @@ asksFor Link a b = link a b
 asksFor Unlink a b = unlink a b
 asksFor Ask a b = ask a b
 
+-- with the runs that it names
 abbrev pub callOf : Record → Call
 callOf r = asksFor (r .kind) (r .first) (r .second)
 
@@ -47,6 +48,7 @@ unfoldable pub readAll : ℕ → List ℕ → Day-records
 readAll zero s = record { records = []; stop = none }
 readAll (suc k) s = readOn (readingOf s) (readAll k (drop recordBytes s))
 
+-- the records of all the bytes
 abbrev pub recordsOf : List ℕ → Day-records
 recordsOf s = readAll (length s) s
 
@@ -81,17 +83,22 @@ pub record Progress : Type 0 where
   pub reversals : ℕ
   pub turned : Option Day
 
+-- the day as at entry of the last link that began turning: s, if this one did
 abbrev pub latest : Bool → Day → Option Day → Option Day
 latest true s before = some s
 latest false s before = before
 
--- a record carried out writes two words, refusal and number, and brings the totals forward
+-- the two answer words of the i-th record: refusal and number
+abbrev pub answered : List ℕ → ℕ → Answer → List ℕ
+answered ws i a = written (written ws (2 * i) (refusalOf a)) (2 * i + 1) (valueOf a)
+
+-- a record carried out writes its answer words and brings the totals forward
 abbrev pub carry : ℕ → Progress → Record → Progress
 carry D p r =
     let o : Outcome = call D (p .day) (callOf r) in
     record {
       day = o .after;
-      answers = written (written (p .answers) (2 * p .carried) (refusalOf (o .answer))) (2 * p .carried + 1) (valueOf (o .answer));
+      answers = answered (p .answers) (p .carried) (o .answer);
       carried = p .carried + 1;
       accepted = p .accepted + taken (callOf r) (o .answer);
       reversals = p .reversals + reversed (callOf r) (o .answer);

@@ -1,4 +1,5 @@
-// Writing: the fifteen bytes of a record.
+// Writing: the fifteen bytes of a record. What is written is read back as the same record (proofs/RoundTrip), so no two records have
+// the same bytes.
 ghost use mathlib.Core.Path.{_≡_};
 ghost use Prim.Native.Nat.{_%_};
 ghost use Rattle.record.specs.Bytes.{runBytes, bytesOf};

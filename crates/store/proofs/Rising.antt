@@ -1,7 +1,6 @@
--- Strictly rising sets of places: when a set rises, that no place stands in it twice, how many places it can have, and what a pass
--- over it marks. Assumes nothing.
+-- Strictly rising sets of places: when a set rises, how many places it can have, and what a pass over it marks. Assumes nothing.
 use Prim.Native.Nat.{ℕ, zero, suc, _+_, _-_, _≤_, _<_}
-use mathlib.Core.Bool.{Bool, true, false, _&&_}
+use mathlib.Core.Bool.{true, false}
 use mathlib.Core.List.{List, [], _∷_}
 use mathlib.Core.Path.{_≡_, refl, sym, ap, _∙_}
 use native.Mathlib.Decide.{ℕ-discrete}
@@ -10,20 +9,12 @@ use native.Mathlib.Omega.{arith}
 use lib.Dec.{ltb}
 use lib.ListN.{length, getD, set, drop, replicate, length-set}
 use lib.Seq.{drop-cons, drop-length, getD-set-same, getD-set-other}
-use borrow.Author.Tests.{lt-ltb, le-ltb, ltb-true}
+use borrow.Author.Tests.{lt-ltb, le-ltb}
 use Rattle.meaning.specs.Cells.{same}
 use Rattle.meaning.specs.Calls.{rising, inSet}
 use Rattle.store.specs.Set.{AllBelow, Marks}
-use Rattle.meaning.proofs.Same.{same-eq, same-le, same-ne}
-
--- two tests that must both pass
-pub and-false : (a b : Bool) → b ≡ false → (a && b) ≡ false
-and-false true b e = e
-and-false false b e = refl
-
-pub and-true : (a b : Bool) → (a && b) ≡ true → (a ≡ true) × (b ≡ true)
-and-true true b e = (refl, e)
-and-true false b e = absurd (let z : _≡_ {A = ℕ} 0 1 = cc in omega arith)
+use Rattle.meaning.proofs.Sets.{and-false, in-once, rising-tail}
+use Rattle.meaning.proofs.Same.{same-eq, same-ne}
 
 -- ---- when a set rises
 
@@ -62,28 +53,9 @@ rises-not ps (suc k) r h e = sym (rising-falls ps k h (let f : suc k - 1 ≡ k =
 pub rises-all : (ps : List ℕ) (i : ℕ) → Rises ps i → length ps ≤ i → true ≡ rising ps
 rises-all ps i r h = sym (rising-rises ps (λ k q. r .rise k (omega arith)))
 
--- ---- a rising set has each place once
+-- ---- a rising set has few places
 
-pub rising-tail : (p q : ℕ) (ps : List ℕ) → rising (p ∷ q ∷ ps) ≡ true → (p < q) × (rising (q ∷ ps) ≡ true)
-rising-tail p q ps e = let a : (ltb p q ≡ true) × (rising (q ∷ ps) ≡ true) = and-true (ltb p q) (rising (q ∷ ps)) e in (ltb-true p q (a .0), a .1)
-
--- a place below the first isn't in the set
-below-first : (v q : ℕ) (ps : List ℕ) → rising (q ∷ ps) ≡ true → v < q → inSet (q ∷ ps) v ≡ 0
-below-first v q [] e h = omega (arith, same-ne q v (λ z. omega arith))
-below-first v q (r ∷ ps) e h =
-    let t : (q < r) × (rising (r ∷ ps) ≡ true) = rising-tail q r ps e in omega (arith, same-ne q v (λ z. omega arith), below-first v r ps (t .1) (omega arith))
-
-pub in-once : (v : ℕ) (ps : List ℕ) → rising ps ≡ true → inSet ps v ≤ 1
-in-once v [] e = omega arith
-in-once v (p ∷ []) e = omega (arith, same-le p v)
-in-once v (p ∷ q ∷ ps) e =
-    let t : (p < q) × (rising (q ∷ ps) ≡ true) = rising-tail p q ps e in
-    elim (ℕ-discrete p v) [
-      | yes z ↦ omega (arith, same-le p v, below-first v q ps (t .1) (omega arith))
-      | no z ↦ omega (arith, same-ne p v z, in-once v (q ∷ ps) (t .1))
-    ]
-
--- and no more places than there are numbers below their bound
+-- no more than there are numbers below their bound
 few-from : (m p : ℕ) (ps : List ℕ) → rising (p ∷ ps) ≡ true → AllBelow m (p ∷ ps) → length (p ∷ ps) + p ≤ m
 few-from m p [] e b = omega (arith, b 0 (omega arith))
 few-from m p (q ∷ ps) e b =

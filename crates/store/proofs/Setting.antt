@@ -19,17 +19,18 @@ use Rattle.meaning.specs.Table.{headOf, lengthOf, lineOf, targetOf, nextOf}
 use Rattle.meaning.specs.Cells.{Cell, Lists, list, rowSum, sum, same}
 use Rattle.meaning.specs.Soundness.{Reaches, Along, Aims, Aimed, Sound}
 use Rattle.meaning.specs.Day.{Day, cells, cellsOf, dayOf}
-use Rattle.meaning.specs.Calls.{rising, badSet, allOpen, inSet, inside, reading, done}
+use Rattle.meaning.specs.Calls.{openPlace, rising, badSet, allOpen, inSet, inside, reading, done}
 use Rattle.meaning.specs.Promise.{Carries}
 use Rattle.meaning.proofs.Crossing.{row-of, line-of}
 use Rattle.meaning.proofs.Lists.{each-length}
 use Rattle.meaning.proofs.Sums.{sum-ext, sum-add, sum-zero, sum-at}
 use Rattle.meaning.proofs.Threaded.{Threaded, length-most, sound-threaded}
 use Rattle.table.specs.Within.{AtCell, named}
-use Rattle.store.specs.Set.{openPlace, AllBelow, Marks, marked, total}
+use Rattle.store.specs.Set.{AllBelow, Marks, marked, total}
 use Rattle.store.proofs.Carrying.{refuses, does}
 use Rattle.find.proofs.Finding.{threaded-within}
-use Rattle.store.proofs.Rising.{and-false, and-true, few}
+use Rattle.meaning.proofs.Sets.{and-false, and-true}
+use Rattle.store.proofs.Rising.{few}
 
 -- ---- every place of a set is open
 

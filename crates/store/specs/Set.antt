@@ -1,17 +1,10 @@
--- Words for a set of places: which are open, which are marked, and what their lists add up to.
+-- Words for a set of places: which are marked, and what their lists add up to.
 use Prim.Native.Nat.{ℕ, _+_, _<_}
-use mathlib.Core.Bool.{Bool, not, _&&_}
 use mathlib.Core.List.{List, [], _∷_}
 use mathlib.Core.Path.{_≡_}
-use lib.Dec.{eqb, ltb}
 use lib.ListN.{length, getD}
 use Rattle.meaning.specs.Cells.{Cell, rowSum}
-use Rattle.meaning.specs.Day.{Day, runOf}
 use Rattle.meaning.specs.Calls.{inSet}
-
--- a place is open; a place number of n or above isn't
-abbrev pub openPlace : Day → ℕ → Bool
-openPlace s p = ltb p (length (s .runs)) && not (eqb (runOf s p .line) 0)
 
 -- every place of a set is below m
 abbrev pub AllBelow : ℕ → List ℕ → Type 0

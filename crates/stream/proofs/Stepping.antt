@@ -13,8 +13,8 @@ use Rattle.terms.specs.declared.refusal.Refusal.the-variants.{Sizes, Unsound, B
 use Rattle.record.specs.declared.Kind.{Kind}
 use Rattle.record.specs.declared.Kind.the-variants.{Open, Close, Link, Unlink, Ask}
 use Rattle.record.specs.declared.Record.{Record}
-use Rattle.meaning.specs.Stream.{asksFor, callOf, taken, reversed}
-use Rattle.stream.specs.Carry.{Carried, answered, Stepped}
+use Rattle.meaning.specs.Stream.{answered, asksFor, callOf, taken, reversed}
+use Rattle.stream.specs.Carry.{Carried, Stepped}
 use Rattle.stream.specs.Totals.{Forward}
 use Rattle.stream.specs.declared.totals.Totals.{Totals}
 

@@ -17,6 +17,7 @@ abbrev pub stopOf : Stop → Option Refusal
 stopOf End = none
 stopOf (At why) = some why
 
+-- what it returns
 abbrev pub resultOf : Streamed → Result
 resultOf r = record { stop = stopOf (r .stop); carried = r .carried }
 

@@ -5,6 +5,7 @@ use lib.ListN.{length}
 use Rattle.meaning.specs.Table.{lengthOf}
 use Rattle.table.specs.Within.{Within}
 
+-- cell i leaves the list of v, which is not empty; the word at `at` names it
 pub record Unhooks (n C : ℕ) (w : List ℕ) (at v i : ℕ) : Type 0 where
   pub within : Within n C w
   pub named : at < length w
@@ -12,6 +13,7 @@ pub record Unhooks (n C : ℕ) (w : List ℕ) (at v i : ℕ) : Type 0 where
   pub cell : i < C
   pub some : 0 < lengthOf n C w v
 
+-- cell i goes to the front of the list of v with target t
 pub record Hooks (n C : ℕ) (w : List ℕ) (i v t : ℕ) : Type 0 where
   pub within : Within n C w
   pub cell : i < C

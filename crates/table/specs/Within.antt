@@ -8,6 +8,7 @@ use Rattle.terms.specs.Size.{InRoom, storeWords}
 use Rattle.terms.specs.declared.run.Run.{Run}
 use Rattle.meaning.specs.Table.{lineOf, numberOf}
 
+-- sizes within their limits and a table of their length
 pub record Within (n C : ℕ) (w : List ℕ) : Type 0 where
   pub room : InRoom n C
   pub long : length w ≡ storeWords n C

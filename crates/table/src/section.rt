@@ -1,8 +1,9 @@
 // One word of a section of the store, read as a number to count with.
-ghost use Prim.Native.Nat.{_^_, _<_};
+ghost use Prim.Native.Nat.{_^_, _≤_, _<_};
 ghost use lib.ListN.{length};
 ghost use mathlib.Core.Path.{_≡_};
-ghost use Rattle.meaning.specs.Table.{word, lineOf, numberOf, headOf, lengthOf, ownerOf, targetOf, nextOf};
+ghost use Rattle.meaning.specs.Table.{word, headAt, nextAt, lineOf, numberOf, headOf, lengthOf, ownerOf, targetOf, nextOf};
+ghost use Rattle.terms.specs.Size.{InRoom};
 ghost use Rattle.table.specs.Within.{AtPlace, AtList, AtCell, named};
 use terms::run::Run;
 
@@ -14,6 +15,22 @@ pub fn word(table: &[u32], i: usize) -> usize
     ensures { λ r. ⌜ (r ≡ word (now (table .entry)) i) × (r < 2 ^ 32) ⌝ }
 {
     table[i] as usize
+}
+
+// Where a list's head word stands.
+pub fn head_at(n: usize, c: usize, v: usize) -> usize
+    requires { ⌜ InRoom n c × (v ≤ n) ⌝ }
+    ensures { λ r. ⌜ r ≡ headAt n c v ⌝ }
+{
+    2 * n + v
+}
+
+// Where a cell's next word stands.
+pub fn next_at(n: usize, c: usize, i: usize) -> usize
+    requires { ⌜ InRoom n c × (i < c) ⌝ }
+    ensures { λ r. ⌜ r ≡ nextAt n c i ⌝ }
+{
+    4 * n + 2 + 2 * c + i
 }
 
 // The run at a place.
@@ -45,7 +62,7 @@ pub fn head(store: &[u32], n: usize, c: usize, v: usize) -> usize
     requires { ⌜ AtList n c (now store) v ⌝ }
     ensures { λ r. ⌜ (r ≡ headOf n c (now (store .entry)) v) × (r < 2 ^ 32) ⌝ }
 {
-    word(store, 2 * n + v)
+    word(store, head_at(n, c, v))
 }
 
 pub fn count(store: &[u32], n: usize, c: usize, v: usize) -> usize
@@ -73,5 +90,5 @@ pub fn next(store: &[u32], n: usize, c: usize, i: usize) -> usize
     requires { ⌜ AtCell n c (now store) i ⌝ }
     ensures { λ r. ⌜ (r ≡ nextOf n c (now (store .entry)) i) × (r < 2 ^ 32) ⌝ }
 {
-    word(store, 4 * n + 2 + 2 * c + i)
+    word(store, next_at(n, c, i))
 }

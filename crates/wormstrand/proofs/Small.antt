@@ -25,7 +25,7 @@ use Rattle.meaning.proofs.Kept.{call-case}
 use Rattle.meaning.proofs.Sums.{sum-le}
 use Rattle.meaning.proofs.Threaded.{sound-threaded}
 use Rattle.meaning.proofs.Counts.{links-count}
-use Rattle.store.proofs.Rising.{in-once}
+use Rattle.meaning.proofs.Sets.{in-once}
 use Rattle.stream.proofs.Carrying.{number-small}
 use Rattle.wormstrand.specs.Pack.{Small}
 

@@ -30,6 +30,7 @@ pub record Packed (P : Answer → Type 0) (r : ℕ) : Type 0 where
 abbrev pub packResult : Result → ℕ
 packResult r = stopNumber (r .stop) * 2 ^ 32 + r .carried
 
+-- what is returned is the packing of a stream's result of which P holds
 pub record PackedResult (P : Result → Type 0) (r : ℕ) : Type 0 where
   pub result : Result
   pub small : result .carried < 2 ^ 32
