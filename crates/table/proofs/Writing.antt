@@ -2,11 +2,11 @@
 -- 01 lists. Assumes nothing.
 use Prim.Native.Nat.{ℕ, _+_, _*_, _-_, _≤_, _<_}
 use mathlib.Core.List.{List}
-use mathlib.Core.Path.{_≡_, refl, ap, _∙_}
+use mathlib.Core.Path.{_≡_, refl, ap, subst, _∙_}
 use native.Mathlib.Decide.{ℕ-discrete}
 use native.Mathlib.Omega.{arith}
 use lib.ListN.{length, set}
-use Rattle.meaning.specs.Table.{NONE, word, written}
+use Rattle.meaning.specs.Table.{NONE, word, headAt, lengthAt, ownerAt, targetAt, nextAt, written}
 use Rattle.meaning.specs.Day.{emptyTable}
 use Rattle.meaning.proofs.Words.{written-length, word-same, word-other}
 use Rattle.meaning.proofs.Empty.{emptied-is}
@@ -43,10 +43,27 @@ writes-one i x w w' h e = record {
   above = λ p q. rw e (word-other w i p x (λ z. omega arith));
 }
 
--- the places' half, from its five sections, first to last
+-- the same at a position that is known by another name
+writes-at : (a b many : ℕ) (f : ℕ → ℕ) (w w' : List ℕ) → a ≡ b → Writes a many f w w' → Writes b many f w w'
+writes-at a b many f w w' e = subst (λ (p : ℕ). Writes p many f w w') e
+
+-- the places' half, from its five sections, first to last; h and l are where heads and lengths begin, and h' and l' where the free
+-- list's stand
 module _ (n C : ℕ) (w w1 w2 w3 w4 w5 : List ℕ) (W : Within n C w) (names : Writes 0 (2 * n) (λ _. 0) w w1)
-    (heads : Writes (2 * n) n (λ _. NONE) w1 w2) (front : w3 ≡ written w2 (3 * n) 0) (counts : Writes (3 * n + 1) n (λ _. 0) w3 w4)
-    (all : w5 ≡ written w4 (4 * n + 1) C) where
+    (h : ℕ) (e₁ : h ≡ headAt n C 0) (heads-at : Writes h n (λ _. NONE) w1 w2) (h' : ℕ) (e₂ : h' ≡ headAt n C n) (front-at : w3 ≡ written w2 h' 0)
+    (l : ℕ) (e₃ : l ≡ lengthAt n C 0) (counts-at : Writes l n (λ _. 0) w3 w4) (l' : ℕ) (e₄ : l' ≡ lengthAt n C n) (all-at : w5 ≡ written w4 l' C) where
+  heads : Writes (2 * n) n (λ _. NONE) w1 w2
+  heads = writes-at h (2 * n) n (λ _. NONE) w1 w2 (omega (arith, e₁)) heads-at
+
+  front : w3 ≡ written w2 (3 * n) 0
+  front = front-at ∙ ap (λ (p : ℕ). written w2 p 0) (omega (arith, e₂))
+
+  counts : Writes (3 * n + 1) n (λ _. 0) w3 w4
+  counts = writes-at l (3 * n + 1) n (λ _. 0) w3 w4 (omega (arith, e₃)) counts-at
+
+  all : w5 ≡ written w4 (4 * n + 1) C
+  all = all-at ∙ ap (λ (p : ℕ). written w4 p C) (omega (arith, e₄))
+
   free-head : Writes (3 * n) 1 (λ _. 0) w2 w3
   free-head = writes-one (3 * n) 0 w2 w3 (omega (arith, W .long, names .long, heads .long)) front
 
@@ -73,10 +90,22 @@ module _ (n C : ℕ) (w w1 w2 w3 w4 w5 : List ℕ) (W : Within n C w) (names : W
     free-count = ap (word w5) (omega arith) ∙ free-count .inside 0 (omega arith);
   }
 
--- the cells' half, from its four sections
-module _ (n C : ℕ) (w w1 w2 w3 w4 : List ℕ) (W : Within n C w) (owners : Writes (4 * n + 2) C (λ _. n) w w1)
-    (targets : Writes (4 * n + 2 + C) C (λ _. NONE) w1 w2) (nexts : Writes (4 * n + 2 + 2 * C) (C - 1) (λ j. j + 1) w2 w3)
-    (back : w4 ≡ written w3 (4 * n + 1 + 3 * C) NONE) where
+-- the cells' half, from its four sections, which begin at o, t and x; the last cell's next stands at x'
+module _ (n C : ℕ) (w w1 w2 w3 w4 : List ℕ) (W : Within n C w) (o : ℕ) (e₁ : o ≡ ownerAt n C 0) (owners-at : Writes o C (λ _. n) w w1)
+    (t : ℕ) (e₂ : t ≡ targetAt n C 0) (targets-at : Writes t C (λ _. NONE) w1 w2) (x : ℕ) (e₃ : x ≡ nextAt n C 0)
+    (nexts-at : Writes x (C - 1) (λ j. j + 1) w2 w3) (x' : ℕ) (e₄ : x' ≡ nextAt n C (C - 1)) (back-at : w4 ≡ written w3 x' NONE) where
+  owners : Writes (4 * n + 2) C (λ _. n) w w1
+  owners = writes-at o (4 * n + 2) C (λ _. n) w w1 (omega (arith, e₁)) owners-at
+
+  targets : Writes (4 * n + 2 + C) C (λ _. NONE) w1 w2
+  targets = writes-at t (4 * n + 2 + C) C (λ _. NONE) w1 w2 (omega (arith, e₂)) targets-at
+
+  nexts : Writes (4 * n + 2 + 2 * C) (C - 1) (λ j. j + 1) w2 w3
+  nexts = writes-at x (4 * n + 2 + 2 * C) (C - 1) (λ j. j + 1) w2 w3 (omega (arith, e₃)) nexts-at
+
+  back : w4 ≡ written w3 (4 * n + 1 + 3 * C) NONE
+  back = back-at ∙ ap (λ (p : ℕ). written w3 p NONE) (omega (arith, e₄, W .room .cells-least))
+
   last : Writes (4 * n + 1 + 3 * C) 1 (λ _. NONE) w3 w4
   last = writes-one (4 * n + 1 + 3 * C) NONE w3 w4 (omega (arith, W .long, owners .long, targets .long, nexts .long)) back
 

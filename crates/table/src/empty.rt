@@ -38,10 +38,10 @@ fn places(store: &mut [u32], n: usize, c: usize)
     ensures { λ _. ⌜ PlacesEmptied n c (now (store .entry)) (now (store .exit)) ⌝ }
 {
     fill(store, 0, 2 * n, 0);
-    fill(store, 2 * n, n, section::NONE);
-    step::put(store, 3 * n, 0);
-    fill(store, 3 * n + 1, n, 0);
-    step::put(store, 4 * n + 1, c);
+    fill(store, section::head_at(n, c, 0), n, section::NONE);
+    step::put(store, section::head_at(n, c, n), 0);
+    fill(store, section::count_at(n, c, 0), n, 0);
+    step::put(store, section::count_at(n, c, n), c);
 }
 
 // Owners, targets, nexts.
@@ -49,10 +49,10 @@ fn cells(store: &mut [u32], n: usize, c: usize)
     requires { ⌜ Within n c (now store) ⌝ }
     ensures { λ _. ⌜ CellsEmptied n c (now (store .entry)) (now (store .exit)) ⌝ }
 {
-    fill(store, 4 * n + 2, c, n);
-    fill(store, 4 * n + 2 + c, c, section::NONE);
-    count_up(store, 4 * n + 2 + 2 * c, c - 1);
-    step::put(store, 4 * n + 1 + 3 * c, section::NONE);
+    fill(store, section::owner_at(n, c, 0), c, n);
+    fill(store, section::target_at(n, c, 0), c, section::NONE);
+    count_up(store, section::next_at(n, c, 0), c - 1);
+    step::put(store, section::next_at(n, c, c - 1), section::NONE);
 }
 
 pub fn empty(store: &mut [u32], n: usize, c: usize)

@@ -1,8 +1,8 @@
-// One word of a section of the store, read as a number to count with.
+// Where the words of each section stand, and one of them read as a number to count with.
 ghost use Prim.Native.Nat.{_^_, _≤_, _<_};
 ghost use lib.ListN.{length};
 ghost use mathlib.Core.Path.{_≡_};
-ghost use Rattle.meaning.specs.Table.{word, headAt, nextAt, lineOf, numberOf, headOf, lengthOf, ownerOf, targetOf, nextOf};
+ghost use Rattle.meaning.specs.Table.{word, headAt, lengthAt, ownerAt, targetAt, nextAt, lineOf, numberOf, headOf, lengthOf, ownerOf, targetOf, nextOf};
 ghost use Rattle.terms.specs.Size.{InRoom};
 ghost use Rattle.table.specs.Within.{AtPlace, AtList, AtCell, named};
 use terms::run::Run;
@@ -25,7 +25,29 @@ pub fn head_at(n: usize, c: usize, v: usize) -> usize
     2 * n + v
 }
 
-// Where a cell's next word stands.
+// Where a list's length word stands.
+pub fn count_at(n: usize, c: usize, v: usize) -> usize
+    requires { ⌜ InRoom n c × (v ≤ n) ⌝ }
+    ensures { λ r. ⌜ r ≡ lengthAt n c v ⌝ }
+{
+    3 * n + 1 + v
+}
+
+// Where a cell's owner word stands, its target word, its next word.
+pub fn owner_at(n: usize, c: usize, i: usize) -> usize
+    requires { ⌜ InRoom n c × (i < c) ⌝ }
+    ensures { λ r. ⌜ r ≡ ownerAt n c i ⌝ }
+{
+    4 * n + 2 + i
+}
+
+pub fn target_at(n: usize, c: usize, i: usize) -> usize
+    requires { ⌜ InRoom n c × (i < c) ⌝ }
+    ensures { λ r. ⌜ r ≡ targetAt n c i ⌝ }
+{
+    4 * n + 2 + c + i
+}
+
 pub fn next_at(n: usize, c: usize, i: usize) -> usize
     requires { ⌜ InRoom n c × (i < c) ⌝ }
     ensures { λ r. ⌜ r ≡ nextAt n c i ⌝ }
@@ -69,21 +91,21 @@ pub fn count(store: &[u32], n: usize, c: usize, v: usize) -> usize
     requires { ⌜ AtList n c (now store) v ⌝ }
     ensures { λ r. ⌜ (r ≡ lengthOf n c (now (store .entry)) v) × (r < 2 ^ 32) ⌝ }
 {
-    word(store, 3 * n + 1 + v)
+    word(store, count_at(n, c, v))
 }
 
 pub fn owner(store: &[u32], n: usize, c: usize, i: usize) -> usize
     requires { ⌜ AtCell n c (now store) i ⌝ }
     ensures { λ r. ⌜ (r ≡ ownerOf n c (now (store .entry)) i) × (r < 2 ^ 32) ⌝ }
 {
-    word(store, 4 * n + 2 + i)
+    word(store, owner_at(n, c, i))
 }
 
 pub fn target(store: &[u32], n: usize, c: usize, i: usize) -> usize
     requires { ⌜ AtCell n c (now store) i ⌝ }
     ensures { λ r. ⌜ (r ≡ targetOf n c (now (store .entry)) i) × (r < 2 ^ 32) ⌝ }
 {
-    word(store, 4 * n + 2 + c + i)
+    word(store, target_at(n, c, i))
 }
 
 pub fn next(store: &[u32], n: usize, c: usize, i: usize) -> usize

@@ -31,8 +31,8 @@ fn set_list(store: &mut [u32], n: usize, c: usize, v: usize, first: usize, many:
     requires { ⌜ AtList n c (now store) v × (first < 2 ^ 32) × (many < 2 ^ 32) ⌝ }
     ensures { λ _. ⌜ now (store .exit) ≡ listed n c (now (store .entry)) v first many ⌝ }
 {
-    put(store, 2 * n + v, first);
-    put(store, 3 * n + 1 + v, many);
+    put(store, section::head_at(n, c, v), first);
+    put(store, section::count_at(n, c, v), many);
 }
 
 // A cell's three words.
@@ -48,9 +48,9 @@ fn set_cell(
     requires { ⌜ AtCell n c (now store) i × (owner < 2 ^ 32) × (target < 2 ^ 32) × (next < 2 ^ 32) ⌝ }
     ensures { λ _. ⌜ now (store .exit) ≡ celled n c (now (store .entry)) i owner target next ⌝ }
 {
-    put(store, 4 * n + 2 + i, owner);
-    put(store, 4 * n + 2 + c + i, target);
-    put(store, 4 * n + 2 + 2 * c + i, next);
+    put(store, section::owner_at(n, c, i), owner);
+    put(store, section::target_at(n, c, i), target);
+    put(store, section::next_at(n, c, i), next);
 }
 
 // Cell i leaves the list of v; the word that names it stands at `at`.
@@ -61,7 +61,7 @@ pub fn unhook(store: &mut [u32], n: usize, c: usize, at: usize, v: usize, i: usi
     let rest = section::next(store, n, c, i);
     let many = section::count(store, n, c, v) - 1;
     put(store, at, rest);
-    put(store, 3 * n + 1 + v, many);
+    put(store, section::count_at(n, c, v), many);
 }
 
 // Cell i goes to the front of the list of v with target t. The list's new length.

@@ -4,38 +4,20 @@ use borrow.Author.Needs.{needs}
 use Rattle.table.proofs.empty.cells.Statement.{statement}
 use Rattle.table.proofs.empty.cells.Tie as tie
 
-mul-fill : tie.Need-mul-fill
-mul-fill c = search needs
-
-add-fill : tie.Need-add-fill
-add-fill c = search needs
+owner-at-requires : tie.Need-owner-at-requires
+owner-at-requires c κs = search needs
 
 fill-requires : tie.Need-fill-requires
 fill-requires c κs = search needs
 
-mul-fill-2 : tie.Need-mul-fill-2
-mul-fill-2 c = search needs
-
-add-fill-2 : tie.Need-add-fill-2
-add-fill-2 c = search needs
-
-add-fill-3 : tie.Need-add-fill-3
-add-fill-3 c = search needs
+target-at-requires : tie.Need-target-at-requires
+target-at-requires c κs = search needs
 
 fill-requires-2 : tie.Need-fill-requires-2
 fill-requires-2 c κs = search needs
 
-mul-count-up : tie.Need-mul-count-up
-mul-count-up c = search needs
-
-add-count-up : tie.Need-add-count-up
-add-count-up c = search needs
-
-mul-count-up-2 : tie.Need-mul-count-up-2
-mul-count-up-2 c = search needs
-
-add-count-up-2 : tie.Need-add-count-up-2
-add-count-up-2 c = search needs
+next-at-requires : tie.Need-next-at-requires
+next-at-requires c κs = search needs
 
 sub-count-up : tie.Need-sub-count-up
 sub-count-up c = search needs
@@ -43,17 +25,11 @@ sub-count-up c = search needs
 count-up-requires : tie.Need-count-up-requires
 count-up-requires c κs = search needs
 
-mul-put : tie.Need-mul-put
-mul-put c = search needs
+sub-next-at : tie.Need-sub-next-at
+sub-next-at c = search needs
 
-add-put : tie.Need-add-put
-add-put c = search needs
-
-mul-put-2 : tie.Need-mul-put-2
-mul-put-2 c = search needs
-
-add-put-2 : tie.Need-add-put-2
-add-put-2 c = search needs
+next-at-requires-2 : tie.Need-next-at-requires-2
+next-at-requires-2 c κs = search needs
 
 put-requires : tie.Need-put-requires
 put-requires c κs = search needs
@@ -63,33 +39,25 @@ same-length c = search needs
 
 returns : tie.Need-returns
 returns c =
-    cells-emptied _ _ _ _ _ _ _
-    (c .before .before .before .before .before .before .before .before .before .before .before .before .before .before .before .before .before .pre)
-    (c .before .before .before .before .before .before .before .before .before .before .before .before .before .before .fill .ensures)
-    (c .before .before .before .before .before .before .before .before .before .before .fill2 .ensures)
-    (c .before .before .before .before .before .before .count-up .ensures) (c .before .before .put .ensures)
+    cells-emptied _ _ _ _ _ _ _ (c .before .before .before .before .before .before .before .before .before .before .before .before .before .before .before .before .before .before .before .before .before .pre)
+    _ (c .before .before .before .before .before .before .before .before .before .before .before .before .before .before .before .before .before .before .owner-at .ensures) (c .before .before .before .before .before .before .before .before .before .before .before .before .before .before .before .before .before .fill .ensures)
+    _ (c .before .before .before .before .before .before .before .before .before .before .before .before .before .target-at .ensures) (c .before .before .before .before .before .before .before .before .before .before .before .before .fill2 .ensures)
+    _ (c .before .before .before .before .before .before .before .before .next-at .ensures) (c .before .before .before .before .before .before .before .count-up .ensures)
+    _ (c .before .before .before .next-at2 .ensures) (c .before .before .put .ensures)
 
 pub cells-spec : {M : Type 1} → statement M
 cells-spec =
     tie.close
     (tie.spec
-    mul-fill
-    add-fill
+    owner-at-requires
     fill-requires
-    mul-fill-2
-    add-fill-2
-    add-fill-3
+    target-at-requires
     fill-requires-2
-    mul-count-up
-    add-count-up
-    mul-count-up-2
-    add-count-up-2
+    next-at-requires
     sub-count-up
     count-up-requires
-    mul-put
-    add-put
-    mul-put-2
-    add-put-2
+    sub-next-at
+    next-at-requires-2
     put-requires
     same-length
     returns)

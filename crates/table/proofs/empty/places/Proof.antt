@@ -10,32 +10,26 @@ mul-fill c = search needs
 fill-requires : tie.Need-fill-requires
 fill-requires c κs = search needs
 
-mul-fill-2 : tie.Need-mul-fill-2
-mul-fill-2 c = search needs
+head-at-requires : tie.Need-head-at-requires
+head-at-requires c κs = search needs
 
 fill-requires-2 : tie.Need-fill-requires-2
 fill-requires-2 c κs = search needs
 
-mul-put : tie.Need-mul-put
-mul-put c = search needs
+head-at-requires-2 : tie.Need-head-at-requires-2
+head-at-requires-2 c κs = search needs
 
 put-requires : tie.Need-put-requires
 put-requires c κs = search needs
 
-mul-fill-3 : tie.Need-mul-fill-3
-mul-fill-3 c = search needs
-
-add-fill : tie.Need-add-fill
-add-fill c = search needs
+count-at-requires : tie.Need-count-at-requires
+count-at-requires c κs = search needs
 
 fill-requires-3 : tie.Need-fill-requires-3
 fill-requires-3 c κs = search needs
 
-mul-put-2 : tie.Need-mul-put-2
-mul-put-2 c = search needs
-
-add-put : tie.Need-add-put
-add-put c = search needs
+count-at-requires-2 : tie.Need-count-at-requires-2
+count-at-requires-2 c κs = search needs
 
 put-requires-2 : tie.Need-put-requires-2
 put-requires-2 c κs = search needs
@@ -45,12 +39,12 @@ same-length c = search needs
 
 returns : tie.Need-returns
 returns c =
-    places-emptied _ _ _ _ _ _ _ _
-    (c .before .before .before .before .before .before .before .before .before .before .before .before .before .before .before .before .before .before .before .before .before .pre)
-    (c .before .before .before .before .before .before .before .before .before .before .before .before .before .before .before .before .before .before .fill .ensures)
-    (c .before .before .before .before .before .before .before .before .before .before .before .before .before .before .fill2 .ensures)
-    (c .before .before .before .before .before .before .before .before .before .before .put .ensures)
-    (c .before .before .before .before .before .before .fill3 .ensures) (c .before .before .put2 .ensures)
+    places-emptied _ _ _ _ _ _ _ _ (c .before .before .before .before .before .before .before .before .before .before .before .before .before .before .before .before .before .before .before .before .before .before .before .before .before .pre)
+    (c .before .before .before .before .before .before .before .before .before .before .before .before .before .before .before .before .before .before .before .before .before .before .fill .ensures)
+    _ (c .before .before .before .before .before .before .before .before .before .before .before .before .before .before .before .before .before .before .head-at .ensures) (c .before .before .before .before .before .before .before .before .before .before .before .before .before .before .before .before .before .fill2 .ensures)
+    _ (c .before .before .before .before .before .before .before .before .before .before .before .before .before .head-at2 .ensures) (c .before .before .before .before .before .before .before .before .before .before .before .before .put .ensures)
+    _ (c .before .before .before .before .before .before .before .before .count-at .ensures) (c .before .before .before .before .before .before .before .fill3 .ensures)
+    _ (c .before .before .before .count-at2 .ensures) (c .before .before .put2 .ensures)
 
 pub places-spec : {M : Type 1} → statement M
 places-spec =
@@ -58,15 +52,13 @@ places-spec =
     (tie.spec
     mul-fill
     fill-requires
-    mul-fill-2
+    head-at-requires
     fill-requires-2
-    mul-put
+    head-at-requires-2
     put-requires
-    mul-fill-3
-    add-fill
+    count-at-requires
     fill-requires-3
-    mul-put-2
-    add-put
+    count-at-requires-2
     put-requires-2
     same-length
     returns)

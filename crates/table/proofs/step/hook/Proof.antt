@@ -1,6 +1,7 @@
 -- `table::step::hook` meets its contract. Assumes nothing.
-use Rattle.meaning.proofs.Steps.{hooked}
-use native.Mathlib.Omega.{arith}
+use Prim.Native.Nat.{ℕ, _+_}
+use mathlib.Core.Path.{ap}
+use Rattle.table.proofs.Stepping.{hook-words}
 use borrow.Author.Needs.{needs}
 use Rattle.table.proofs.step.hook.Statement.{statement}
 use Rattle.table.proofs.step.hook.Tie as tie
@@ -24,8 +25,10 @@ same-length : tie.Need-same-length
 same-length c = search needs
 
 returns : tie.Need-returns
-unfolding hooked
-returns c = (cc, cc)
+returns c = (
+  ap (λ (k : ℕ). k + 1) (c .before .before .before .before .before .before .before .before .count .ensures .0),
+  hook-words _ _ _ _ _ _ _ _ _ (c .before .before .before .before .before .before .before .before .count .ensures .0) _ (c .before .before .before .before .before .before .before .before .before .before .head .ensures .0) (c .before .before .before .before .before .before .set-cell .ensures) (c .before .before .set-list .ensures),
+)
 
 pub hook-spec : {M : Type 1} → statement M
 hook-spec =

@@ -1,27 +1,17 @@
 -- `table::step::set_list` meets its contract. Assumes nothing.
 use Rattle.meaning.proofs.Steps.{listed}
-use native.Mathlib.Omega.{arith}
 use borrow.Author.Needs.{needs}
 use Rattle.table.proofs.step.set_list.Statement.{statement}
 use Rattle.table.proofs.step.set_list.Tie as tie
 
-mul-put : tie.Need-mul-put
-mul-put c = search needs
-
-add-put : tie.Need-add-put
-add-put c = search needs
+head-at-requires : tie.Need-head-at-requires
+head-at-requires c κs = search needs
 
 put-requires : tie.Need-put-requires
 put-requires c κs = search needs
 
-mul-put-2 : tie.Need-mul-put-2
-mul-put-2 c = search needs
-
-add-put-2 : tie.Need-add-put-2
-add-put-2 c = search needs
-
-add-put-3 : tie.Need-add-put-3
-add-put-3 c = search needs
+count-at-requires : tie.Need-count-at-requires
+count-at-requires c κs = search needs
 
 put-requires-2 : tie.Need-put-requires-2
 put-requires-2 c κs = search needs
@@ -36,13 +26,4 @@ returns c = cc
 pub set-list-spec : {M : Type 1} → statement M
 set-list-spec =
     tie.close
-    (tie.spec
-    mul-put
-    add-put
-    put-requires
-    mul-put-2
-    add-put-2
-    add-put-3
-    put-requires-2
-    same-length
-    returns)
+    (tie.spec head-at-requires put-requires count-at-requires put-requires-2 same-length returns)

@@ -1,6 +1,5 @@
 -- `table::step::unhook` meets its contract. Assumes nothing.
-use Rattle.meaning.proofs.Steps.{unhooked}
-use native.Mathlib.Omega.{arith}
+use Rattle.table.proofs.Stepping.{unhook-words}
 use borrow.Author.Needs.{needs}
 use Rattle.table.proofs.step.unhook.Statement.{statement}
 use Rattle.table.proofs.step.unhook.Tie as tie
@@ -17,14 +16,8 @@ sub-many c = search needs
 put-requires : tie.Need-put-requires
 put-requires c κs = search needs
 
-mul-put : tie.Need-mul-put
-mul-put c = search needs
-
-add-put : tie.Need-add-put
-add-put c = search needs
-
-add-put-2 : tie.Need-add-put-2
-add-put-2 c = search needs
+count-at-requires : tie.Need-count-at-requires
+count-at-requires c κs = search needs
 
 put-requires-2 : tie.Need-put-requires-2
 put-requires-2 c κs = search needs
@@ -33,8 +26,9 @@ same-length : tie.Need-same-length
 same-length c = search needs
 
 returns : tie.Need-returns
-unfolding unhooked
-returns c = cc
+returns c =
+    unhook-words _ _ _ _ _ _ _ _ _ (c .before .before .before .before .before .before .before .before .before .count .ensures .0) _ _ (c .before .before .before .before .before .before .before .before .before .before .before .next .ensures .0) (c .before .before .before .count-at .ensures)
+    (c .before .before .before .before .before .before .before .put .ensures) (c .before .before .put2 .ensures)
 
 pub unhook-spec : {M : Type 1} → statement M
 unhook-spec =
@@ -44,9 +38,7 @@ unhook-spec =
     count-requires
     sub-many
     put-requires
-    mul-put
-    add-put
-    add-put-2
+    count-at-requires
     put-requires-2
     same-length
     returns)
