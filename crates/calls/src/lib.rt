@@ -1,6 +1,6 @@
 // The public calls, for any numbers and any tables handed in: each judges them and then carries the call out. It knows no stream
 // of records and no caller from C.
-ghost use Rattle.meaning.specs.Calls.{openRun, closeRun, unlink, ask, reading};
+ghost use Rattle.meaning.specs.Calls.{open_run, close_run, unlink, ask, reading};
 ghost use Rattle.meaning.specs.Promise.{Promise, EmptyPromise, LinkPromise};
 
 use judge::Verdict;
@@ -28,7 +28,7 @@ pub fn empty(n: usize, c: usize, store: &mut [u32]) -> Answer
 
 // The run takes the lowest free place, whose number is the answer.
 pub fn open(n: usize, c: usize, d: usize, store: &mut [u32], run: Run) -> Answer
-    ensures { Promise n c d (openRun run) store.old result store.new }
+    ensures { Promise n c d (open_run run) store.old result store.new }
 {
     match judge::judge(n, c, d, store) {
         Verdict::WrongSizes => Answer::Refused(Refusal::Sizes),
@@ -39,7 +39,7 @@ pub fn open(n: usize, c: usize, d: usize, store: &mut [u32], run: Run) -> Answer
 
 // The run's place becomes free, if no link touches it.
 pub fn close(n: usize, c: usize, d: usize, store: &mut [u32], run: Run) -> Answer
-    ensures { Promise n c d (closeRun run) store.old result store.new }
+    ensures { Promise n c d (close_run run) store.old result store.new }
 {
     match judge::judge(n, c, d, store) {
         Verdict::WrongSizes => Answer::Refused(Refusal::Sizes),

@@ -2,8 +2,8 @@
 // It prints each record's outcome and how the day ended. It only reads, prints and calls: refusals, numbers and totals come from
 // the library, position and kind are those of the record.
 ghost use Rattle.std.specs.Prelude.{◌+◌, ◌*◌, ◌≤◌, ◌<◌, length, ◌≡◌};
-ghost use Rattle.dayrun.specs.Line.{bytesMost, answerWords, printed, DayEnds};
-ghost use Rattle.record.specs.Bytes.{recordBytes, kind_at};
+ghost use Rattle.dayrun.specs.Line.{bytes_most, answer_words, printed, DayEnds};
+ghost use Rattle.record.specs.Bytes.{record_bytes, kind_at};
 
 use record::Record;
 use stream::totals::Totals;
@@ -42,7 +42,7 @@ struct Ran {
 }
 
 fn record_line(bytes: &[u8], answers: &[u32], i: usize) -> Line
-    requires { (recordBytes * i + kind_at < length bytes.now) × (2 * i + 1 < length answers.now) }
+    requires { (record_bytes * i + kind_at < length bytes.now) × (2 * i + 1 < length answers.now) }
     ensures { result ≡ printed bytes.now answers.now i }
 {
     let kind = bytes[Record::BYTES * i + Record::KIND_AT];
@@ -58,7 +58,7 @@ fn record_line(bytes: &[u8], answers: &[u32], i: usize) -> Line
 
 // The day on an empty store. Each record's refusal and number go to answers.
 fn run_day(bytes: &[u8], answers: &mut [u32]) -> Ran
-    requires { (length bytes.now ≤ bytesMost) × (length answers.old ≡ answerWords) }
+    requires { (length bytes.now ≤ bytes_most) × (length answers.old ≡ answer_words) }
     ensures { DayEnds bytes.now answers.old result answers.new }
 {
     let mut store = [0u32; STORE_WORDS];
@@ -113,7 +113,7 @@ fn print_end(ran: Ran) {
 
 // A line for each record carried out.
 fn print_records(bytes: &[u8], answers: &[u32], carried: usize)
-    requires { (recordBytes * carried ≤ length bytes.now) × (2 * carried ≤ length answers.now) }
+    requires { (record_bytes * carried ≤ length bytes.now) × (2 * carried ≤ length answers.now) }
 {
     let mut i: usize = 0;
     while i < carried {
@@ -123,7 +123,7 @@ fn print_records(bytes: &[u8], answers: &[u32], carried: usize)
 }
 
 fn day(bytes: &[u8])
-    requires { length bytes.now ≤ bytesMost }
+    requires { length bytes.now ≤ bytes_most }
 {
     let mut answers = [0u32; ANSWER_WORDS];
     let ran = run_day(bytes, &mut answers);

@@ -6,14 +6,14 @@ use mathlib.Core.Path.{◌≡◌, refl, ap}
 use native.Mathlib.Decide.{ℕ_discrete}
 use native.Mathlib.Nat.{mul_comm, min-eq_left}
 use native.Mathlib.Omega.{arith}
-use Rattle.terms.specs.Run.{sameRun}
+use Rattle.terms.specs.Run.{same_run}
 use Rattle.terms.specs.declared.run.Run.{Run}
-use Rattle.terms.proofs.Names.{same_refl, same-eq as run-eq}
+use Rattle.terms.proofs.Names.{same_refl, same_eq as run-eq}
 use Rattle.meaning.specs.Cells.{Cell, Lists, Weight, sum, same}
 use Rattle.meaning.specs.Day.{Day, run_of}
 use Rattle.meaning.specs.Calls.{yes1}
-use Rattle.meaning.proofs.Same.{same-ne}
-use Rattle.meaning.proofs.Sums.{Has, sum-le-in, sum-mem, sum-add, sum-ext, Even}
+use Rattle.meaning.proofs.Same.{same_ne}
+use Rattle.meaning.proofs.Sums.{Has, sum-le_in, sum-mem, sum-add, sum_ext, Even}
 use Rattle.demands.specs.History.{same_pair, weigh, between, Directions, unsure, outward, differ, changed}
 
 -- the links that stand in the list of the run they don't go outward at
@@ -25,45 +25,45 @@ pub yes_le : (b : Bool) → yes1 b ≤ 1
 yes_le true = omega arith
 yes_le false = omega arith
 
-either-comm : (a b : Bool) → a || b ≡ b || a
-either-comm true true = refl
-either-comm true false = refl
-either-comm false true = refl
-either-comm false false = refl
+either_comm : (a b : Bool) → a || b ≡ b || a
+either_comm true true = refl
+either_comm true false = refl
+either_comm false true = refl
+either_comm false false = refl
 
-both-comm : (a b : Bool) → a && b ≡ b && a
-both-comm true true = refl
-both-comm true false = refl
-both-comm false true = refl
-both-comm false false = refl
+both_comm : (a b : Bool) → a && b ≡ b && a
+both_comm true true = refl
+both_comm true false = refl
+both_comm false true = refl
+both_comm false false = refl
 
 pub both_true : (a b : Bool) → a && b ≡ true → (a ≡ true) × (b ≡ true)
 both_true true b e = (refl, e)
 both_true false b e = absurd (let z : ◌≡◌ {A = ℕ} 0 1 = cc in omega arith)
 
-either-cases : (a b : Bool) → a || b ≡ true → (a ≡ true) ⊎ (b ≡ true)
-either-cases true b e = inl refl
-either-cases false b e = inr e
+either_cases : (a b : Bool) → a || b ≡ true → (a ≡ true) ⊎ (b ≡ true)
+either_cases true b e = inl refl
+either_cases false b e = inr e
 
-pub pair-swap : (p q x y : Run) → same_pair p q x y ≡ same_pair p q y x
+pub pair_swap : (p q x y : Run) → same_pair p q x y ≡ same_pair p q y x
 unfolding same_pair
-pair-swap p q x y = either-comm (sameRun p x && sameRun q y) (sameRun p y && sameRun q x)
+pair_swap p q x y = either_comm (same_run p x && same_run q y) (same_run p y && same_run q x)
 
 pub pair_comm : (p q x y : Run) → same_pair p q x y ≡ same_pair q p x y
 unfolding same_pair
 pair_comm p q x y =
-    rw (both-comm (sameRun p x) (sameRun q y), both-comm (sameRun p y) (sameRun q x)) (either-comm (sameRun q y && sameRun p x) (sameRun q x && sameRun p y))
+    rw (both_comm (same_run p x) (same_run q y), both_comm (same_run p y) (same_run q x)) (either_comm (same_run q y && same_run p x) (same_run q x && same_run p y))
 
-pub pair-self : (x y : Run) → same_pair x y x y ≡ true
+pub pair_self : (x y : Run) → same_pair x y x y ≡ true
 unfolding same_pair
-pair-self x y = rw (same_pair, same_refl x, same_refl y)
+pair_self x y = rw (same_pair, same_refl x, same_refl y)
 
 pub pair_is : (p q x y : Run) → same_pair p q x y ≡ true → ((p ≡ x) × (q ≡ y)) ⊎ ((p ≡ y) × (q ≡ x))
 unfolding same_pair
 pair_is p q x y e = ⊎_elim
-    (λ a. inl (let t : (sameRun p x ≡ true) × (sameRun q y ≡ true) = both_true _ _ a in (run-eq p x t.0, run-eq q y t.1)))
-    (λ a. inr (let t : (sameRun p y ≡ true) × (sameRun q x ≡ true) = both_true _ _ a in (run-eq p y t.0, run-eq q x t.1)))
-    (either-cases (sameRun p x && sameRun q y) (sameRun p y && sameRun q x) e)
+    (λ a. inl (let t : (same_run p x ≡ true) × (same_run q y ≡ true) = both_true _ _ a in (run-eq p x t.0, run-eq q y t.1)))
+    (λ a. inr (let t : (same_run p y ≡ true) × (same_run q x ≡ true) = both_true _ _ a in (run-eq p y t.0, run-eq q x t.1)))
+    (either_cases (same_run p x && same_run q y) (same_run p y && same_run q x) e)
 
 -- ---- directions
 -- F doesn't ask in which of the two runs' lists the link stands
@@ -74,63 +74,63 @@ Swaps F = (x y : Run) → F x y ≡ F y x
 abbrev pub by : (Run → Run → ℕ) → Day → Weight
 by F s v c = F (run_of s v) (run_of s c.target)
 
-pub by-even : (F : Run → Run → ℕ) (s : Day) → Swaps F → Even (by F s)
-by-even F s sw v c = sw (run_of s v) (run_of s c.target)
+pub by_even : (F : Run → Run → ℕ) (s : Day) → Swaps F → Even (by F s)
+by_even F s sw v c = sw (run_of s v) (run_of s c.target)
 
-pub yes-pair-swaps : (p q : Run) → Swaps (λ x y. yes1 (same_pair p q x y))
-yes-pair-swaps p q x y = ap yes1 (pair-swap p q x y)
+pub yes_pair_swaps : (p q : Run) → Swaps (λ x y. yes1 (same_pair p q x y))
+yes_pair_swaps p q x y = ap yes1 (pair_swap p q x y)
 
-pub unsure-swaps : (C : Directions) → Swaps (unsure C)
+pub unsure_swaps : (C : Directions) → Swaps (unsure C)
 unfolding unsure
-unsure-swaps C x y = ap (λ (k : ℕ). 1 - same k 1) (omega arith)
+unsure_swaps C x y = ap (λ (k : ℕ). 1 - same k 1) (omega arith)
 
-pub outward-swaps : (C : Directions) (p : Run) → Swaps (outward C p)
+pub outward_swaps : (C : Directions) (p : Run) → Swaps (outward C p)
 unfolding outward
-outward-swaps C p x y = omega arith
+outward_swaps C p x y = omega arith
 
-pub differ-swaps : (C C' : Directions) → Swaps (differ C C')
+pub differ_swaps : (C C' : Directions) → Swaps (differ C C')
 unfolding differ
-differ-swaps C C' x y = ap (λ (k : ℕ). 1 - k) (mul_comm (same (C x y) (C' x y)) (same (C y x) (C' y x)))
+differ_swaps C C' x y = ap (λ (k : ℕ). 1 - k) (mul_comm (same (C x y) (C' x y)) (same (C y x) (C' y x)))
 
 -- a link that is not unsure goes outward at one end
 pub one_way : (C : Directions) (x y : Run) → unsure C x y ≡ 0 → C x y + C y x ≡ 1
 unfolding unsure
-one_way C x y e = elim (ℕ_discrete (C x y + C y x) 1) [ yes f ↦ f | no n ↦ absurd (omega (arith, same-ne (C x y + C y x) 1 n)) ]
+one_way C x y e = elim (ℕ_discrete (C x y + C y x) 1) [ yes f ↦ f | no n ↦ absurd (omega (arith, same_ne (C x y + C y x) 1 n)) ]
 
-pub outward-self : (C : Directions) (x y : Run) → C x y ≤ outward C x x y
+pub outward_self : (C : Directions) (x y : Run) → C x y ≤ outward C x x y
 unfolding outward
-outward-self C x y = rw (outward, same_refl x) (omega arith)
+outward_self C x y = rw (outward, same_refl x) (omega arith)
 
 -- a link that goes outward at y by C' goes outward at y by C, or the choices differ on it
-pub differ-covers : (C C' : Directions) (x y : Run) → C' y x ≤ 1 → C' y x ≤ C y x + differ C C' x y
+pub differ_covers : (C C' : Directions) (x y : Run) → C' y x ≤ 1 → C' y x ≤ C y x + differ C C' x y
 unfolding differ
-differ-covers C C' x y h = elim (ℕ_discrete (C y x) (C' y x)) [
+differ_covers C C' x y h = elim (ℕ_discrete (C y x) (C' y x)) [
   | yes e ↦ omega arith
-  | no n ↦ omega (arith, mul_comm (same (C x y) (C' x y)) (same (C y x) (C' y x)), ap (λ (k : ℕ). k * same (C x y) (C' x y)) (same-ne (C y x) (C' y x) n))
+  | no n ↦ omega (arith, mul_comm (same (C x y) (C' x y)) (same (C y x) (C' y x)), ap (λ (k : ℕ). k * same (C x y) (C' x y)) (same_ne (C y x) (C' y x) n))
 ]
 
 -- ---- the links that stand
-pub between-comm : (p q : Run) (s : Day) → between p q s ≡ between q p s
-between-comm p q s = sum-ext (by (λ x y. yes1 (same_pair p q x y)) s) (by (λ x y. yes1 (same_pair q p x y)) s) s.lists
+pub between_comm : (p q : Run) (s : Day) → between p q s ≡ between q p s
+between_comm p q s = sum_ext (by (λ x y. yes1 (same_pair p q x y)) s) (by (λ x y. yes1 (same_pair q p x y)) s) s.lists
     (λ v c. ap yes1 (pair_comm p q (run_of s v) (run_of s c.target)))
 
 -- a link that stands is between its two runs, and sure where none is unsure
-pub has-between : (s : Day) (v : ℕ) (c : Cell) → Has s.lists v c → 1 ≤ between (run_of s v) (run_of s c.target) s
-has-between s v c m =
+pub has_between : (s : Day) (v : ℕ) (c : Cell) → Has s.lists v c → 1 ≤ between (run_of s v) (run_of s c.target) s
+has_between s v c m =
     let x : Run = run_of s v in
     let y : Run = run_of s c.target in
-    omega (arith, ap yes1 (pair-self x y), sum-mem (by (λ a b. yes1 (same_pair x y a b)) s) s.lists v c m)
+    omega (arith, ap yes1 (pair_self x y), sum-mem (by (λ a b. yes1 (same_pair x y a b)) s) s.lists v c m)
 
-pub has-sure : (C : Directions) (s : Day) (ls : Lists) → sum (by (unsure C) s) ls ≡ 0 → (v : ℕ) (c : Cell) → Has ls v c
+pub has_sure : (C : Directions) (s : Day) (ls : Lists) → sum (by (unsure C) s) ls ≡ 0 → (v : ℕ) (c : Cell) → Has ls v c
     → C (run_of s v) (run_of s c.target) + C (run_of s c.target) (run_of s v) ≡ 1
-has-sure C s ls e v c m = one_way C (run_of s v) (run_of s c.target) (omega (arith, sum-mem (by (unsure C) s) ls v c m))
+has_sure C s ls e v c m = one_way C (run_of s v) (run_of s c.target) (omega (arith, sum-mem (by (unsure C) s) ls v c m))
 
 -- 1 where a link of x and y stood in s and the choices differ on it
 abbrev pub turned : Directions → Directions → Day → Run → Run → ℕ
 turned C C' s x y = min 1 (between x y s) * differ C C' x y
 
-pub turned-swaps : (C C' : Directions) (s : Day) → Swaps (turned C C' s)
-turned-swaps C C' s x y = rw (differ-swaps C C' x y, between-comm x y s)
+pub turned_swaps : (C C' : Directions) (s : Day) → Swaps (turned C C' s)
+turned_swaps C C' s x y = rw (differ_swaps C C' x y, between_comm x y s)
 
 -- no links but those of s
 abbrev pub Fewer : Day → Day → Type 0
@@ -140,22 +140,22 @@ least : (b x : ℕ) → 1 ≤ b → x ≤ min 1 b * x
 least b x h = rw (min-eq_left h) (omega arith)
 
 -- where only links are taken away, those that disagree are paid for by those on which the choices differ
-pub fewer-pays : (C C' : Directions) (s s' : Day) → Fewer s' s → weigh (unsure C') s' ≡ 0 → disagree C' s' ≤ disagree C s + changed C C' s s'
-fewer-pays C C' s s' f g =
+pub fewer_pays : (C C' : Directions) (s s' : Day) → Fewer s' s → weigh (unsure C') s' ≡ 0 → disagree C' s' ≤ disagree C s + changed C C' s s'
+fewer_pays C C' s s' f g =
     omega (
       arith,
       f (λ x y. C y x),
       sum-add (by (λ x y. C y x) s') (by (turned C C' s) s') s'.lists,
-      sum-le-in (by (λ x y. C' y x) s') (λ v c. by (λ x y. C y x) s' v c + by (turned C C' s) s' v c) s'.lists
-          (λ v c m. each-pays v c m),
+      sum-le_in (by (λ x y. C' y x) s') (λ v c. by (λ x y. C y x) s' v c + by (turned C C' s) s' v c) s'.lists
+          (λ v c m. each_pays v c m),
     )
   where
-    each-pays : (v : ℕ) (c : Cell) → Has s'.lists v c → by (λ x y. C' y x) s' v c ≤ by (λ x y. C y x) s' v c + by (turned C C' s) s' v c
-    each-pays v c m =
+    each_pays : (v : ℕ) (c : Cell) → Has s'.lists v c → by (λ x y. C' y x) s' v c ≤ by (λ x y. C y x) s' v c + by (turned C C' s) s' v c
+    each_pays v c m =
         let x : Run = run_of s' v in
         let y : Run = run_of s' c.target in
         omega (
           arith,
-          least (between x y s) (differ C C' x y) (omega (arith, has-between s' v c m, f (λ a b. yes1 (same_pair x y a b)))),
-          differ-covers C C' x y (omega (arith, has-sure C' s' s'.lists g v c m)),
+          least (between x y s) (differ C C' x y) (omega (arith, has_between s' v c m, f (λ a b. yes1 (same_pair x y a b)))),
+          differ_covers C C' x y (omega (arith, has_sure C' s' s'.lists g v c m)),
         )

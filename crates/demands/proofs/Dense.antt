@@ -15,53 +15,53 @@ use Rattle.terms.specs.declared.refusal.Answer.TheVariants.{Refused}
 use Rattle.meaning.specs.Cells.{Cell, Lists, sum}
 use Rattle.meaning.specs.Turning.{Ending, settled, dense}
 use Rattle.meaning.specs.Day.{Day, place_of}
-use Rattle.meaning.specs.Calls.{link, Tests, tests, firstRefusal, ended, doLink, call}
+use Rattle.meaning.specs.Calls.{link, Tests, tests, first_refusal, ended, do_link, call}
 use Rattle.meaning.proofs.Right.{Right, pair}
-use Rattle.meaning.proofs.Sums.{push-sum}
+use Rattle.meaning.proofs.Sums.{push_sum}
 use Rattle.meaning.proofs.Turnings.{Settles}
 use Rattle.meaning.proofs.Finding.{Both}
-use Rattle.meaning.proofs.Kept.{joined, run, link-run, new-link, call-case}
+use Rattle.meaning.proofs.Kept.{joined, run, link_run, new_link, call_case}
 use Rattle.demands.specs.History.{Directions, unsure, outward, Directed, DirectedWith}
 use Rattle.demands.proofs.Choices.{by}
 use Rattle.demands.proofs.Potential.{holding}
-use Rattle.demands.proofs.Pays.{link-settles}
+use Rattle.demands.proofs.Pays.{link_settles}
 
 -- none of the tests gives refusal 9
 abbrev Others : Tests → Type 0
 Others [] = Unit {0}
 Others (t ∷ ts) = (number_of t.1 ≡ 9 → ⊥) × Others ts
 
-first-other : (ts : Tests) → Others ts → (why : Refusal) → firstRefusal ts ≡ some why → why ≡ TooDense → ⊥
-first-other [] o why e f = let z : ◌≡◌ {A = ℕ} 0 1 = cc in omega arith
-first-other (t ∷ ts) o why e f = go t.0 e (first-other ts o.1)
+first_other : (ts : Tests) → Others ts → (why : Refusal) → first_refusal ts ≡ some why → why ≡ TooDense → ⊥
+first_other [] o why e f = let z : ◌≡◌ {A = ℕ} 0 1 = cc in omega arith
+first_other (t ∷ ts) o why e f = go t.0 e (first_other ts o.1)
   where
-    go : (b : Bool) → ◌≡◌ {A = Option Refusal} (elim b [ true ↦ some t.1 | false ↦ firstRefusal ts ]) (some why)
-        → ((why : Refusal) → firstRefusal ts ≡ some why → why ≡ TooDense → ⊥) → ⊥
+    go : (b : Bool) → ◌≡◌ {A = Option Refusal} (elim b [ true ↦ some t.1 | false ↦ first_refusal ts ]) (some why)
+        → ((why : Refusal) → first_refusal ts ≡ some why → why ≡ TooDense → ⊥) → ⊥
     go true g h = let k : t.1 ≡ why = cc in o.0 (ap number_of (k ∙ f))
     go false g h = h why g f
 
-pub never-dense-from : (n D : ℕ) (s : Day) → Right n D s → (p q : Run) (C : Directions) → DirectedWith p q (D / 2) C s
+pub never_dense_from : (n D : ℕ) (s : Day) → Right n D s → (p q : Run) (C : Directions) → DirectedWith p q (D / 2) C s
     → (call D s (link p q)).answer ≡ Refused TooDense → ⊥
-never-dense-from n D s ok p q C g =
-    call-case (λ o. o.answer ≡ Refused TooDense → ⊥) D s (link p q)
+never_dense_from n D s ok p q C g =
+    call_case (λ o. o.answer ≡ Refused TooDense → ⊥) D s (link p q)
     (λ why e f.
-    first-other (tests s (link p q))
+    first_other (tests s (link p q))
     ((λ z. omega arith), ((λ z. omega arith), ((λ z. omega arith), ((λ z. omega arith), ((λ z. omega arith), tt))))) why e (cc))
-    (λ e. go (new-link n D s ok p q e) s.free)
+    (λ e. go (new_link n D s ok p q e) s.free)
   where
-    go : Both n s p q × (sum (pair (place_of s p) (place_of s q)) s.lists ≡ 0) → (fs : List ℕ) → (doLink D s (place_of s p) (place_of s q) fs).answer ≡ Refused TooDense → ⊥
+    go : Both n s p q × (sum (pair (place_of s p) (place_of s q)) s.lists ≡ 0) → (fs : List ℕ) → (do_link D s (place_of s p) (place_of s q) fs).answer ≡ Refused TooDense → ⊥
     go t [] f = let y : ◌≡◌ {A = ℕ} 0 1 = cc in omega arith
     go t (i ∷ fs) f =
         let u : ℕ = place_of s p in
         let v : ℕ = place_of s q in
         let c : Cell = record { index = i; target = v } in
-        let hu : u < length s.lists = omega (arith, ok.rows, t.0.place-p) in
+        let hu : u < length s.lists = omega (arith, ok.rows, t.0.place_p) in
         let g⁺ : Directed (D / 2) C (holding s (joined s u v i)) = record {
-          each = omega (arith, g.each, push-sum (by (unsure C) s) s.lists u c hu, ap₂ (unsure C) t.0.run-p t.0.run-q);
-          few = λ x. omega (arith, g.few x, push-sum (by (outward C x) s) s.lists u c hu, ap₂ (outward C x) t.0.run-p t.0.run-q);
+          each = omega (arith, g.each, push_sum (by (unsure C) s) s.lists u c hu, ap₂ (unsure C) t.0.run_p t.0.run_q);
+          few = λ x. omega (arith, g.few x, push_sum (by (outward C x) s) s.lists u c hu, ap₂ (outward C x) t.0.run_p t.0.run_q);
         } in
-        link-run (λ a s'. a ≡ Refused TooDense → ⊥) D s u v i fs
-        (ends (run D s u v i) _ (link-settles n D (D / 2) (omega arith) s ok u v i t.0.place-p t.0.place-q C g⁺)) f
+        link_run (λ a s'. a ≡ Refused TooDense → ⊥) D s u v i fs
+        (ends (run D s u v i) _ (link_settles n D (D / 2) (omega arith) s ok u v i t.0.place_p t.0.place_q C g⁺)) f
       where
         ends : (o : Ending) (I : Lists → List ℕ → ℕ → Type 0) → Settles I o → (ended s fs o).answer ≡ Refused TooDense → ⊥
         ends (settled ls r) I h f = let y : ◌≡◌ {A = ℕ} 0 1 = cc in omega arith

@@ -10,14 +10,14 @@ use native.Mathlib.Nat.{add-zero}
 use lib.Dec.{eqb, ltb}
 use lib.ListN.{length, drop, get_or}
 use Rattle.terms.specs.Refusal.{number_of}
-use Rattle.terms.specs.Run.{no_run, sameRun}
+use Rattle.terms.specs.Run.{no_run, same_run}
 use Rattle.terms.specs.declared.run.Run.{Run}
 use Rattle.terms.specs.declared.refusal.Answer.{Answer}
 use Rattle.terms.specs.declared.refusal.Answer.TheVariants.{Done, Refused}
 use Rattle.terms.specs.declared.refusal.Refusal.{Refusal}
 use Rattle.terms.specs.declared.refusal.Refusal.TheVariants.{Sizes, Unsound, WrongMark, WrongKind, CutShort}
-use Rattle.record.specs.Bytes.{recordBytes, kind_at, first_at, secondAt, marked, kind_of, run_at}
-use Rattle.record.specs.Reading.{namesOne, checked, kinded, reading_of}
+use Rattle.record.specs.Bytes.{record_bytes, kind_at, first_at, second_at, marked, kind_of, run_at}
+use Rattle.record.specs.Reading.{names_one, checked, kinded, reading_of}
 use Rattle.record.specs.declared.Kind.{Kind}
 use Rattle.record.specs.declared.reader.KindByte.{KindByte}
 use Rattle.record.specs.declared.reader.KindByte.TheVariants.{Known, Unknown}
@@ -26,16 +26,16 @@ use Rattle.record.specs.declared.reader.Reading.TheVariants as reading
 use Rattle.meaning.specs.Cells.{Lists, push, list, holds, links}
 use Rattle.meaning.specs.Turning.{over, Ending, settled, dense, turning}
 use Rattle.meaning.specs.Soundness.{Sound}
-use Rattle.meaning.specs.Day.{Day, dayOf, place_of}
-use Rattle.meaning.specs.Calls.{Call, openRun, closeRun, link, unlink, ask, reading as readSet, Outcome, Tests, firstRefusal, tests, done, ended, doLink, doUnlink, act, call}
+use Rattle.meaning.specs.Day.{Day, day_of, place_of}
+use Rattle.meaning.specs.Calls.{Call, open_run, close_run, link, unlink, ask, reading as read_set, Outcome, Tests, first_refusal, tests, done, ended, do_link, do_unlink, act, call}
 use Rattle.meaning.specs.Stream.{call_of, read_on, read_all, answered, taken, reversed, latest, Day-records}
-use Rattle.meaning.specs.Promise.{Carries, spareAfter, waitingAfter, Result}
-use Rattle.meaning.proofs.Decided.{sized-dec}
-use Rattle.meaning.proofs.Rules.{sound-or}
-use Rattle.meaning.proofs.Determined.{sound-determined}
-use Rattle.meaning.proofs.Kept.{call-case, link-run, run}
-use Rattle.demands.specs.Demands.{CallRefused, EmptyRefused, isDense, LinkRefused, StreamRefused, StreamStopped, RecordRefused, Demand1}
-use Rattle.demands.proofs.Tight.{two_sized, lent-dec, stream-lent-dec}
+use Rattle.meaning.specs.Promise.{Carries, spare_after, waiting_after, Result}
+use Rattle.meaning.proofs.Decided.{sized_dec}
+use Rattle.meaning.proofs.Rules.{sound_or}
+use Rattle.meaning.proofs.Determined.{sound_determined}
+use Rattle.meaning.proofs.Kept.{call_case, link_run, run}
+use Rattle.demands.specs.Demands.{CallRefused, EmptyRefused, is_dense, LinkRefused, StreamRefused, StreamStopped, RecordRefused, Demand1}
+use Rattle.demands.proofs.Tight.{two_sized, lent_dec, stream_lent_dec}
 
 different : {A : Type 0} (k : ℕ) (why : Refusal) → Done k ≡ Refused why → A
 different k why e = absurd (let z : ◌≡◌ {A = ℕ} 0 1 = cc in omega arith)
@@ -45,149 +45,149 @@ module _ (D : ℕ) (s : Day) (why : Refusal) where
   Stays : Outcome → Type 0
   Stays o = o.answer ≡ Refused why → o.after ≡ s
 
-  ended-stays : (fs : List ℕ) (e : Ending) → Stays (ended s fs e)
+  ended_stays : (fs : List ℕ) (e : Ending) → Stays (ended s fs e)
   unfolding Stays
-  ended-stays fs (settled ls r) h = different r why h
-  ended-stays fs dense h = refl
+  ended_stays fs (settled ls r) h = different r why h
+  ended_stays fs dense h = refl
 
-  link_stays : (u v : ℕ) (fs : List ℕ) → Stays (doLink D s u v fs)
+  link_stays : (u v : ℕ) (fs : List ℕ) → Stays (do_link D s u v fs)
   unfolding Stays
   link_stays u v [] h = refl
-  link_stays u v (i ∷ fs) h = link-run (λ a t. a ≡ Refused why → t ≡ s) D s u v i fs (ended-stays fs (run D s u v i)) h
+  link_stays u v (i ∷ fs) h = link_run (λ a t. a ≡ Refused why → t ≡ s) D s u v i fs (ended_stays fs (run D s u v i)) h
 
-  unlink-stays : (u v : ℕ) → Stays (doUnlink s u v)
+  unlink_stays : (u v : ℕ) → Stays (do_unlink s u v)
   unfolding Stays
-  unlink-stays u v = go (holds v (list s.lists u)) refl
+  unlink_stays u v = go (holds v (list s.lists u)) refl
     where
-      go : (b : Bool) → holds v (list s.lists u) ≡ b → (doUnlink s u v).answer ≡ Refused why → (doUnlink s u v).after ≡ s
-      go true e h = different 0 why (rw (doUnlink, e) at h)
-      go false e h = different 0 why (rw (doUnlink, e) at h)
+      go : (b : Bool) → holds v (list s.lists u) ≡ b → (do_unlink s u v).answer ≡ Refused why → (do_unlink s u v).after ≡ s
+      go true e h = different 0 why (rw (do_unlink, e) at h)
+      go false e h = different 0 why (rw (do_unlink, e) at h)
 
-  act-stays : (q : Call) → Stays (act D s q)
+  act_stays : (q : Call) → Stays (act D s q)
   unfolding Stays
-  act-stays (openRun p) h = different _ why h
-  act-stays (closeRun p) h = different _ why h
-  act-stays (link p q) h = link_stays (place_of s p) (place_of s q) s.free h
-  act-stays (unlink p q) h = unlink-stays (place_of s p) (place_of s q) h
-  act-stays (ask p q) h = different _ why h
-  act-stays (readSet ps) h = different _ why h
+  act_stays (open_run p) h = different _ why h
+  act_stays (close_run p) h = different _ why h
+  act_stays (link p q) h = link_stays (place_of s p) (place_of s q) s.free h
+  act_stays (unlink p q) h = unlink_stays (place_of s p) (place_of s q) h
+  act_stays (ask p q) h = different _ why h
+  act_stays (read_set ps) h = different _ why h
 
   call_stays : (q : Call) → (call D s q).answer ≡ Refused why → (call D s q).after ≡ s
   unfolding Stays
-  call_stays q = call-case Stays D s q (λ _ _ _. refl) (λ _. act-stays q)
+  call_stays q = call_case Stays D s q (λ _ _ _. refl) (λ _. act_stays q)
 
-carries-stays : (n C D : ℕ) (q : Call) (w : List ℕ) (why : Refusal) (x : List ℕ) → Sound n C D w → Carries n C D q w (Refused why) x → x ≡ w
-carries-stays n C D q w why x s k =
-    sound-determined n C D D x w k.holds.sound s (k.holds.day ∙ call_stays D (dayOf n C w) why q (sym k.answer))
+carries_stays : (n C D : ℕ) (q : Call) (w : List ℕ) (why : Refusal) (x : List ℕ) → Sound n C D w → Carries n C D q w (Refused why) x → x ≡ w
+carries_stays n C D q w why x s k =
+    sound_determined n C D D x w k.holds.sound s (k.holds.day ∙ call_stays D (day_of n C w) why q (sym k.answer))
 
 -- ---- single calls
-pub call-refused : CallRefused
-call-refused n C D q w x why A =
-    elim (sized-dec n C D w) [
+pub call_refused : CallRefused
+call_refused n C D q w x why A =
+    elim (sized_dec n C D w) [
       | no h ↦ (A.sizes h).1
-      | yes z ↦ elim (sound-or n C D w) [ inr h ↦ (A.unsound z h).1 | inl s ↦ carries-stays n C D q w why x s (A.sound s) ]
+      | yes z ↦ elim (sound_or n C D w) [ inr h ↦ (A.unsound z h).1 | inl s ↦ carries_stays n C D q w why x s (A.sound s) ]
     ]
 
-pub empty-refused : EmptyRefused
-empty-refused n C w x why A =
-    elim (sized-dec n C 2 w) [
+pub empty_refused : EmptyRefused
+empty_refused n C w x why A =
+    elim (sized_dec n C 2 w) [
       | yes z ↦ different 0 why (sym (A.done z.room z.long).0)
       | no h ↦ (A.sizes (λ z. h (two_sized n C w z))).1
     ]
 
 -- ---- link: turning began exactly where the refusal is too dense
-abbrev dense-answer : Answer → Bool
-dense-answer (Done k) = false
-dense-answer (Refused why) = isDense why
+abbrev dense_answer : Answer → Bool
+dense_answer (Done k) = false
+dense_answer (Refused why) = is_dense why
 
-abbrev dense-first : Option Refusal → Bool
-dense-first none = false
-dense-first (some why) = isDense why
+abbrev dense_first : Option Refusal → Bool
+dense_first none = false
+dense_first (some why) = is_dense why
 
 -- no test is for too dense
 abbrev Sparse : Tests → Type 0
 Sparse [] = Unit {0}
-Sparse (t ∷ ts) = (isDense t.1 ≡ false) × Sparse ts
+Sparse (t ∷ ts) = (is_dense t.1 ≡ false) × Sparse ts
 
-first-sparse : (ts : Tests) → Sparse ts → dense-first (firstRefusal ts) ≡ false
-first-sparse [] h = refl
-first-sparse (t ∷ ts) h = go t.0 (first-sparse ts h.1)
+first_sparse : (ts : Tests) → Sparse ts → dense_first (first_refusal ts) ≡ false
+first_sparse [] h = refl
+first_sparse (t ∷ ts) h = go t.0 (first_sparse ts h.1)
   where
-    go : (b : Bool) → dense-first (firstRefusal ts) ≡ false → dense-first (elim b [ true ↦ some t.1 | false ↦ firstRefusal ts ]) ≡ false
+    go : (b : Bool) → dense_first (first_refusal ts) ≡ false → dense_first (elim b [ true ↦ some t.1 | false ↦ first_refusal ts ]) ≡ false
     go true later = h.0
     go false later = later
 
-tests-sparse : (s : Day) (q : Call) → Sparse (tests s q)
-tests-sparse s (openRun p) = (refl, (refl, (refl, tt)))
-tests-sparse s (closeRun p) = (refl, (refl, (refl, tt)))
-tests-sparse s (link p q) = (refl, (refl, (refl, (refl, (refl, tt)))))
-tests-sparse s (unlink p q) = (refl, (refl, (refl, (refl, tt))))
-tests-sparse s (ask p q) = (refl, (refl, (refl, tt)))
-tests-sparse s (readSet ps) = (refl, (refl, tt))
+tests_sparse : (s : Day) (q : Call) → Sparse (tests s q)
+tests_sparse s (open_run p) = (refl, (refl, (refl, tt)))
+tests_sparse s (close_run p) = (refl, (refl, (refl, tt)))
+tests_sparse s (link p q) = (refl, (refl, (refl, (refl, (refl, tt)))))
+tests_sparse s (unlink p q) = (refl, (refl, (refl, (refl, tt))))
+tests_sparse s (ask p q) = (refl, (refl, (refl, tt)))
+tests_sparse s (read_set ps) = (refl, (refl, tt))
 
 module _ (D : ℕ) (s : Day) (why : Refusal) where
   Began : Outcome → Type 0
-  Began o = o.answer ≡ Refused why → o.began ≡ isDense why
+  Began o = o.answer ≡ Refused why → o.began ≡ is_dense why
 
-  ended-began : (fs : List ℕ) (e : Ending) → Began (ended s fs e)
+  ended_began : (fs : List ℕ) (e : Ending) → Began (ended s fs e)
   unfolding Began
-  ended-began fs (settled ls r) h = different r why h
-  ended-began fs dense h = ap dense-answer h
+  ended_began fs (settled ls r) h = different r why h
+  ended_began fs dense h = ap dense_answer h
 
-  link-began : (u v : ℕ) (fs : List ℕ) → Began (doLink D s u v fs)
+  link_began : (u v : ℕ) (fs : List ℕ) → Began (do_link D s u v fs)
   unfolding Began
-  link-began u v [] = λ h. ap dense-answer h
-  link-began u v (i ∷ fs) = go (over D (push s.lists u (record { index = i; target = v })) u)
+  link_began u v [] = λ h. ap dense_answer h
+  link_began u v (i ∷ fs) = go (over D (push s.lists u (record { index = i; target = v })) u)
     where
       go : (b : Bool)
           → let ls : Lists = push s.lists u (record { index = i; target = v }) in
           let o : Outcome = elim b [ true ↦ ended s fs (turning D (links ls) ls (u ∷ []) 0) | false ↦ done 0 (record { runs = s.runs; lists = ls; free = fs }) ] in
-          o.answer ≡ Refused why → o.began ≡ isDense why
-      go true h = ended-began fs (turning D (links (push s.lists u (record { index = i; target = v }))) (push s.lists u (record { index = i; target = v })) (u ∷ []) 0) h
+          o.answer ≡ Refused why → o.began ≡ is_dense why
+      go true h = ended_began fs (turning D (links (push s.lists u (record { index = i; target = v }))) (push s.lists u (record { index = i; target = v })) (u ∷ []) 0) h
       go false h = different 0 why h
 
-  unlink-began : (u v : ℕ) → Began (doUnlink s u v)
+  unlink_began : (u v : ℕ) → Began (do_unlink s u v)
   unfolding Began
-  unlink-began u v = go (holds v (list s.lists u)) refl
+  unlink_began u v = go (holds v (list s.lists u)) refl
     where
-      go : (b : Bool) → holds v (list s.lists u) ≡ b → (doUnlink s u v).answer ≡ Refused why → (doUnlink s u v).began ≡ isDense why
-      go true e h = different 0 why (rw (doUnlink, e) at h)
-      go false e h = different 0 why (rw (doUnlink, e) at h)
+      go : (b : Bool) → holds v (list s.lists u) ≡ b → (do_unlink s u v).answer ≡ Refused why → (do_unlink s u v).began ≡ is_dense why
+      go true e h = different 0 why (rw (do_unlink, e) at h)
+      go false e h = different 0 why (rw (do_unlink, e) at h)
 
-  act-began : (q : Call) → Began (act D s q)
+  act_began : (q : Call) → Began (act D s q)
   unfolding Began
-  act-began (openRun p) h = different _ why h
-  act-began (closeRun p) h = different _ why h
-  act-began (link p q) h = link-began (place_of s p) (place_of s q) s.free h
-  act-began (unlink p q) h = unlink-began (place_of s p) (place_of s q) h
-  act-began (ask p q) h = different _ why h
-  act-began (readSet ps) h = different _ why h
+  act_began (open_run p) h = different _ why h
+  act_began (close_run p) h = different _ why h
+  act_began (link p q) h = link_began (place_of s p) (place_of s q) s.free h
+  act_began (unlink p q) h = unlink_began (place_of s p) (place_of s q) h
+  act_began (ask p q) h = different _ why h
+  act_began (read_set ps) h = different _ why h
 
-  call-began : (q : Call) → (call D s q).answer ≡ Refused why → (call D s q).began ≡ isDense why
+  call_began : (q : Call) → (call D s q).answer ≡ Refused why → (call D s q).began ≡ is_dense why
   unfolding Began
-  call-began q = call-case Began D s q early (λ _. act-began q)
+  call_began q = call_case Began D s q early (λ _. act_began q)
     where
-      early : (x : Refusal) → firstRefusal (tests s q) ≡ some x → Refused x ≡ Refused why → false ≡ isDense why
-      early x e h = sym (first-sparse (tests s q) (tests-sparse s q)) ∙ ap dense-first e ∙ ap dense-answer h
+      early : (x : Refusal) → first_refusal (tests s q) ≡ some x → Refused x ≡ Refused why → false ≡ is_dense why
+      early x e h = sym (first_sparse (tests s q) (tests_sparse s q)) ∙ ap dense_first e ∙ ap dense_answer h
 
-pub link-refused : LinkRefused
-link-refused n C D p q w spare waiting x xs xw why A =
-    elim (lent-dec n C D w spare waiting) [
+pub link_refused : LinkRefused
+link_refused n C D p q w spare waiting x xs xw why A =
+    elim (lent_dec n C D w spare waiting) [
       | no h ↦ early Sizes refl (A.sizes h)
-      | yes l ↦ elim (sound-or n C D w) [
+      | yes l ↦ elim (sound_or n C D w) [
         | inr h ↦ early Unsound refl (A.unsound l h)
         | inl s ↦
             let k = A.sound l s in
-            let b : (call D (dayOf n C w) (link p q)).began ≡ isDense why = call-began D (dayOf n C w) why (link p q) (sym k.carries.answer) in
-            (carries-stays n C D (link p q) w why x s k.carries, k.spared ∙ ap (λ (z : Bool). spareAfter z w spare) b, k.waited ∙ ap (λ (z : Bool). waitingAfter z n waiting) b)
+            let b : (call D (day_of n C w) (link p q)).began ≡ is_dense why = call_began D (day_of n C w) why (link p q) (sym k.carries.answer) in
+            (carries_stays n C D (link p q) w why x s k.carries, k.spared ∙ ap (λ (z : Bool). spare_after z w spare) b, k.waited ∙ ap (λ (z : Bool). waiting_after z n waiting) b)
       ]
     ]
   where
-    early : (c : Refusal) → isDense c ≡ false → (Refused why ≡ Refused c) × (x ≡ w) × (xs ≡ spare) × (xw ≡ waiting)
-        → (x ≡ w) × (xs ≡ spareAfter (isDense why) w spare) × (xw ≡ waitingAfter (isDense why) n waiting)
+    early : (c : Refusal) → is_dense c ≡ false → (Refused why ≡ Refused c) × (x ≡ w) × (xs ≡ spare) × (xw ≡ waiting)
+        → (x ≡ w) × (xs ≡ spare_after (is_dense why) w spare) × (xw ≡ waiting_after (is_dense why) n waiting)
     early c z t =
-        let b : false ≡ isDense why = sym (ap dense-answer t.0 ∙ z) in
-        (t.1, t.2 ∙ ap (λ (z : Bool). spareAfter z w spare) b, t.3 ∙ ap (λ (z : Bool). waitingAfter z n waiting) b)
+        let b : false ≡ is_dense why = sym (ap dense_answer t.0 ∙ z) in
+        (t.1, t.2 ∙ ap (λ (z : Bool). spare_after z w spare) b, t.3 ∙ ap (λ (z : Bool). waiting_after z n waiting) b)
 
 -- ---- stream
 -- a record that is none is refused with 11, 12 or 13
@@ -196,94 +196,94 @@ Late (reading.Whole r) = ℕ
 Late reading.End = ℕ
 Late (reading.Refused why) = number_of WrongMark ≤ number_of why
 
-checked-late : (k : Kind) (a b : Run) → Late (checked k a b)
+checked_late : (k : Kind) (a b : Run) → Late (checked k a b)
 unfolding checked
-checked-late k a b = go (namesOne k && not (sameRun b no_run))
+checked_late k a b = go (names_one k && not (same_run b no_run))
   where
     go : (x : Bool) → Late (cond x (reading.Refused WrongKind) (reading.Whole (record { kind = k; first = a; second = b })))
     go true = omega arith
     go false = 0
 
-reading-late : (s : List ℕ) → Late (reading_of s)
+reading_late : (s : List ℕ) → Late (reading_of s)
 unfolding reading_of
-reading-late s = go (eqb (length s) 0) (ltb (length s) recordBytes) (not (marked s)) (kind_of (get_or s kind_at 0))
+reading_late s = go (eqb (length s) 0) (ltb (length s) record_bytes) (not (marked s)) (kind_of (get_or s kind_at 0))
   where
     go : (a b c : Bool) (k : KindByte)
-        → Late (cond a reading.End (cond b (reading.Refused CutShort) (cond c (reading.Refused WrongMark) (kinded k (run_at s first_at) (run_at s secondAt)))))
+        → Late (cond a reading.End (cond b (reading.Refused CutShort) (cond c (reading.Refused WrongMark) (kinded k (run_at s first_at) (run_at s second_at)))))
     go true b c k = 0
     go false true c k = omega arith
     go false false true k = omega arith
-    go false false false (Known k) = checked-late k (run_at s first_at) (run_at s secondAt)
+    go false false false (Known k) = checked_late k (run_at s first_at) (run_at s second_at)
     go false false false Unknown = omega arith
 
 nothing : (why : Refusal) → none ≡ some why → ⊥
 nothing why e = let z : ◌≡◌ {A = ℕ} 0 1 = cc in omega arith
 
-abbrev number-first : Option Refusal → ℕ
-number-first none = 0
-number-first (some y) = number_of y
+abbrev number_first : Option Refusal → ℕ
+number_first none = 0
+number_first (some y) = number_of y
 
 -- what stops a stream stands in one of its records
-read-late : (s : List ℕ) (rest : Day-records) (why : Refusal) → (rest.stop ≡ some why → number_of WrongMark ≤ number_of why)
+read_late : (s : List ℕ) (rest : Day-records) (why : Refusal) → (rest.stop ≡ some why → number_of WrongMark ≤ number_of why)
     → (read_on (reading_of s) rest).stop ≡ some why → number_of WrongMark ≤ number_of why
-read-late s rest why later = go (reading_of s) (reading-late s)
+read_late s rest why later = go (reading_of s) (reading_late s)
   where
     go : (r : Reading) → Late r → (read_on r rest).stop ≡ some why → number_of WrongMark ≤ number_of why
     go (reading.Whole x) l e = later e
     go reading.End l e = absurd (nothing why e)
-    go (reading.Refused x) l e = omega (arith, l, ap number-first e)
+    go (reading.Refused x) l e = omega (arith, l, ap number_first e)
 
-stop-late : (k : ℕ) (s : List ℕ) (why : Refusal) → (read_all k s).stop ≡ some why → number_of WrongMark ≤ number_of why
+stop_late : (k : ℕ) (s : List ℕ) (why : Refusal) → (read_all k s).stop ≡ some why → number_of WrongMark ≤ number_of why
 unfolding read_all
-stop-late zero s why e = absurd (nothing why e)
-stop-late (suc k) s why e = read-late s (read_all k (drop recordBytes s)) why (stop-late k (drop recordBytes s) why) e
+stop_late zero s why e = absurd (nothing why e)
+stop_late (suc k) s why e = read_late s (read_all k (drop record_bytes s)) why (stop_late k (drop record_bytes s) why) e
 
-pub stream-refused : StreamRefused
-stream-refused n C D bytes t t' r why A e small =
-    elim (stream-lent-dec n C D bytes t) [
+pub stream_refused : StreamRefused
+stream_refused n C D bytes t t' r why A e small =
+    elim (stream_lent_dec n C D bytes t) [
       | no h ↦ (ap (λ (z : Result). z.carried) (A.sizes h).0, (A.sizes h).1)
-      | yes l ↦ elim (sound-or n C D t.store) [
+      | yes l ↦ elim (sound_or n C D t.store) [
         | inr h ↦ (ap (λ (z : Result). z.carried) (A.unsound l h).0, (A.unsound l h).1)
-        | inl s ↦ let late = stop-late (length bytes) bytes why (sym (A.sound l s).stop ∙ e) in absurd (omega arith)
+        | inl s ↦ let late = stop_late (length bytes) bytes why (sym (A.sound l s).stop ∙ e) in absurd (omega arith)
       ]
     ]
 
-pub stream-stopped : StreamStopped
-stream-stopped n C D bytes t t' r why A e large =
-    elim (stream-lent-dec n C D bytes t) [
-      | no h ↦ let z : number_of Sizes ≡ number_of why = ap number-first (sym (ap (λ (x : Result). x.stop) (A.sizes h).0) ∙ e) in absurd (omega arith)
-      | yes l ↦ elim (sound-or n C D t.store) [
-        | inr h ↦ let z : number_of Unsound ≡ number_of why = ap number-first (sym (ap (λ (x : Result). x.stop) (A.unsound l h).0) ∙ e) in absurd (omega arith)
+pub stream_stopped : StreamStopped
+stream_stopped n C D bytes t t' r why A e large =
+    elim (stream_lent_dec n C D bytes t) [
+      | no h ↦ let z : number_of Sizes ≡ number_of why = ap number_first (sym (ap (λ (x : Result). x.stop) (A.sizes h).0) ∙ e) in absurd (omega arith)
+      | yes l ↦ elim (sound_or n C D t.store) [
+        | inr h ↦ let z : number_of Unsound ≡ number_of why = ap number_first (sym (ap (λ (x : Result). x.stop) (A.unsound l h).0) ∙ e) in absurd (omega arith)
         | inl s ↦ A.sound l s
       ]
     ]
 
 -- ---- a record in a stream
 taken_refused : (q : Call) (why : Refusal) → taken q (Refused why) ≡ 0
-taken_refused (openRun p) why = refl
-taken_refused (closeRun p) why = refl
+taken_refused (open_run p) why = refl
+taken_refused (close_run p) why = refl
 taken_refused (link p q) why = refl
 taken_refused (unlink p q) why = refl
 taken_refused (ask p q) why = refl
-taken_refused (readSet ps) why = refl
+taken_refused (read_set ps) why = refl
 
-reversed-refused : (q : Call) (why : Refusal) → reversed q (Refused why) ≡ 0
-reversed-refused (openRun p) why = refl
-reversed-refused (closeRun p) why = refl
-reversed-refused (link p q) why = refl
-reversed-refused (unlink p q) why = refl
-reversed-refused (ask p q) why = refl
-reversed-refused (readSet ps) why = refl
+reversed_refused : (q : Call) (why : Refusal) → reversed q (Refused why) ≡ 0
+reversed_refused (open_run p) why = refl
+reversed_refused (close_run p) why = refl
+reversed_refused (link p q) why = refl
+reversed_refused (unlink p q) why = refl
+reversed_refused (ask p q) why = refl
+reversed_refused (read_set ps) why = refl
 
-pub record-refused : RecordRefused
-record-refused D p r why e = (
+pub record_refused : RecordRefused
+record_refused D p r why e = (
   call_stays D p.day why (call_of r) e,
   ap (λ (a : Answer). p.accepted + taken (call_of r) a) e ∙ ap (λ (x : ℕ). p.accepted + x) (taken_refused (call_of r) why) ∙ add-zero p.accepted,
-  ap (λ (a : Answer). p.reversals + reversed (call_of r) a) e ∙ ap (λ (x : ℕ). p.reversals + x) (reversed-refused (call_of r) why) ∙ add-zero p.reversals,
+  ap (λ (a : Answer). p.reversals + reversed (call_of r) a) e ∙ ap (λ (x : ℕ). p.reversals + x) (reversed_refused (call_of r) why) ∙ add-zero p.reversals,
   ap (answered p.answers p.carried) e,
   refl,
-  ap (λ (b : Bool). latest b p.day p.turned) (call-began D p.day why (call_of r) e),
+  ap (λ (b : Bool). latest b p.day p.turned) (call_began D p.day why (call_of r) e),
 )
 
-pub demand-1 : Demand1
-demand-1 = (call-refused, empty-refused, link-refused, stream-refused, stream-stopped, record-refused)
+pub demand_1 : Demand1
+demand_1 = (call_refused, empty_refused, link_refused, stream_refused, stream_stopped, record_refused)

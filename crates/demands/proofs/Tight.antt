@@ -11,36 +11,36 @@ use mathlib.Core.Path.{◌≡◌, refl, sym, ap, ◌∙◌}
 use native.Mathlib.Decide.{ℕ_discrete, dec_le, map_dec}
 use native.Mathlib.Omega.{arith}
 use lib.ListN.{length}
-use Rattle.terms.specs.Run.{badName, sameRun}
-use Rattle.terms.specs.Size.{InRoom, store_words, waitingWords, streamMost, totalMost}
+use Rattle.terms.specs.Run.{bad_name, same_run}
+use Rattle.terms.specs.Size.{InRoom, store_words, waiting_words, stream_most, total_most}
 use Rattle.terms.specs.declared.run.Run.{Run}
 use Rattle.terms.specs.declared.refusal.Answer.{Answer}
-use Rattle.record.specs.Bytes.{recordBytes}
+use Rattle.record.specs.Bytes.{record_bytes}
 use Rattle.meaning.specs.Cells.{list, holds}
 use Rattle.meaning.specs.Soundness.{Sized}
-use Rattle.meaning.specs.Day.{Day, dayOf, place_of, isOpen}
+use Rattle.meaning.specs.Day.{Day, day_of, place_of, is_open}
 use Rattle.meaning.specs.Calls.{Call, link, ask, call}
 use Rattle.meaning.specs.Promise.{Holds, Carries, Promise, EmptyPromise, Lent, LinkPromise, Tables, StreamLent, Result, SpareIs, StreamCarries, StreamPromise, progress}
-use Rattle.meaning.proofs.Decided.{sized-dec}
-use Rattle.meaning.proofs.Rules.{sound-or}
-use Rattle.meaning.proofs.Determined.{sound-determined}
-use Rattle.meaning.proofs.Finding.{run-same, run-other, run-or}
+use Rattle.meaning.proofs.Decided.{sized_dec}
+use Rattle.meaning.proofs.Rules.{sound_or}
+use Rattle.meaning.proofs.Determined.{sound_determined}
+use Rattle.meaning.proofs.Finding.{run_same, run_other, run_or}
 
 -- one table holds a day
-held-once : (n C D : ℕ) (s : Day) (x y : List ℕ) → Holds n C D x s → Holds n C D y s → x ≡ y
-held-once n C D s x y a b = sound-determined n C D D x y a.sound b.sound (a.day ∙ sym b.day)
+held_once : (n C D : ℕ) (s : Day) (x y : List ℕ) → Holds n C D x s → Holds n C D y s → x ≡ y
+held_once n C D s x y a b = sound_determined n C D D x y a.sound b.sound (a.day ∙ sym b.day)
 
 -- what carries a call out is one
-carries-once : (n C D : ℕ) (q : Call) (w : List ℕ) (a b : Answer) (x y : List ℕ) → Carries n C D q w a x → Carries n C D q w b y → (a ≡ b) × (x ≡ y)
-carries-once n C D q w a b x y A B = (A.answer ∙ sym B.answer, held-once n C D (call D (dayOf n C w) q).after x y A.holds B.holds)
+carries_once : (n C D : ℕ) (q : Call) (w : List ℕ) (a b : Answer) (x y : List ℕ) → Carries n C D q w a x → Carries n C D q w b y → (a ≡ b) × (x ≡ y)
+carries_once n C D q w a b x y A B = (A.answer ∙ sym B.answer, held_once n C D (call D (day_of n C w) q).after x y A.holds B.holds)
 
-pub call-tight : (n C D : ℕ) (q : Call) (w : List ℕ) (a b : Answer) (x y : List ℕ) → Promise n C D q w a x → Promise n C D q w b y → (a ≡ b) × (x ≡ y)
-call-tight n C D q w a b x y A B =
-    elim (sized-dec n C D w) [
+pub call_tight : (n C D : ℕ) (q : Call) (w : List ℕ) (a b : Answer) (x y : List ℕ) → Promise n C D q w a x → Promise n C D q w b y → (a ≡ b) × (x ≡ y)
+call_tight n C D q w a b x y A B =
+    elim (sized_dec n C D w) [
       | no h ↦ ((A.sizes h).0 ∙ sym (B.sizes h).0, (A.sizes h).1 ∙ sym (B.sizes h).1)
-      | yes z ↦ elim (sound-or n C D w) [
+      | yes z ↦ elim (sound_or n C D w) [
         | inr h ↦ ((A.unsound z h).0 ∙ sym (B.unsound z h).0, (A.unsound z h).1 ∙ sym (B.unsound z h).1)
-        | inl s ↦ carries-once n C D q w a b x y (A.sound s) (B.sound s)
+        | inl s ↦ carries_once n C D q w a b x y (A.sound s) (B.sound s)
       ]
     ]
 
@@ -48,9 +48,9 @@ call-tight n C D q w a b x y A B =
 pub two_sized : (n C : ℕ) (w : List ℕ) → InRoom n C × (length w ≡ store_words n C) → Sized n C 2 w
 two_sized n C w z = record { room = z.0; limit = record { least = omega arith; most = omega arith }; long = z.1 }
 
-pub empty-tight : (n C : ℕ) (w : List ℕ) (a b : Answer) (x y : List ℕ) → EmptyPromise n C w a x → EmptyPromise n C w b y → (a ≡ b) × (x ≡ y)
-empty-tight n C w a b x y A B =
-    elim (sized-dec n C 2 w) [
+pub empty_tight : (n C : ℕ) (w : List ℕ) (a b : Answer) (x y : List ℕ) → EmptyPromise n C w a x → EmptyPromise n C w b y → (a ≡ b) × (x ≡ y)
+empty_tight n C w a b x y A B =
+    elim (sized_dec n C 2 w) [
       | yes z ↦
           let f = A.done z.room z.long in
           let g = B.done z.room z.long in
@@ -61,22 +61,22 @@ empty-tight n C w a b x y A B =
           (f.0 ∙ sym g.0, f.1 ∙ sym g.1)
     ]
 
-pub lent-dec : (n C D : ℕ) (w spare waiting : List ℕ) → Dec (Lent n C D w spare waiting)
-lent-dec n C D w spare waiting =
-    map_dec (λ p. record { sized = p.0; spare-long = p.1.0; waiting-long = p.1.1 }) (λ l. (l.sized, (l.spare-long, l.waiting-long)))
-    (Dec.and (sized-dec n C D w) (Dec.and (ℕ_discrete (length spare) (store_words n C)) (ℕ_discrete (length waiting) (waitingWords n))))
+pub lent_dec : (n C D : ℕ) (w spare waiting : List ℕ) → Dec (Lent n C D w spare waiting)
+lent_dec n C D w spare waiting =
+    map_dec (λ p. record { sized = p.0; spare_long = p.1.0; waiting_long = p.1.1 }) (λ l. (l.sized, (l.spare_long, l.waiting_long)))
+    (Dec.and (sized_dec n C D w) (Dec.and (ℕ_discrete (length spare) (store_words n C)) (ℕ_discrete (length waiting) (waiting_words n))))
 
 module _ (n C D : ℕ) (p q : Run) (w spare waiting : List ℕ) (a b : Answer) (x xs xw y ys yw : List ℕ) where
-  pub link-tight : LinkPromise n C D p q w spare waiting a x xs xw → LinkPromise n C D p q w spare waiting b y ys yw
+  pub link_tight : LinkPromise n C D p q w spare waiting a x xs xw → LinkPromise n C D p q w spare waiting b y ys yw
       → (a ≡ b) × (x ≡ y) × (xs ≡ ys) × (xw ≡ yw)
-  link-tight A B = elim (lent-dec n C D w spare waiting) [
+  link_tight A B = elim (lent_dec n C D w spare waiting) [
     | no h ↦ both (A.sizes h) (B.sizes h)
-    | yes l ↦ elim (sound-or n C D w) [
+    | yes l ↦ elim (sound_or n C D w) [
       | inr h ↦ both (A.unsound l h) (B.unsound l h)
       | inl s ↦
           let f = A.sound l s in
           let g = B.sound l s in
-          let o = carries-once n C D (link p q) w a b x y f.carries g.carries in
+          let o = carries_once n C D (link p q) w a b x y f.carries g.carries in
           (o.0, o.1, f.spared ∙ sym g.spared, f.waited ∙ sym g.waited)
     ]
   ]
@@ -86,15 +86,15 @@ module _ (n C D : ℕ) (p q : Run) (w spare waiting : List ℕ) (a b : Answer) (
       both f g = (f.0 ∙ sym g.0, f.1 ∙ sym g.1, f.2 ∙ sym g.2, f.3 ∙ sym g.3)
 
 -- ---- a stream
-pub stream-lent-dec : (n C D : ℕ) (bytes : List ℕ) (t : Tables) → Dec (StreamLent n C D bytes t)
-stream-lent-dec n C D bytes t =
+pub stream_lent_dec : (n C D : ℕ) (bytes : List ℕ) (t : Tables) → Dec (StreamLent n C D bytes t)
+stream_lent_dec n C D bytes t =
     map_dec
-    (λ p. record { lent = p.0; short = p.1.0; answers-long = p.1.1.0; accepted-most = p.1.1.1.0; reversals-most = p.1.1.1.1 })
-    (λ l. (l.lent, (l.short, (l.answers-long, (l.accepted-most, l.reversals-most)))))
-    (Dec.and (lent-dec n C D t.store t.spare t.waiting)
-    (Dec.and (dec_le (length bytes) streamMost)
-    (Dec.and (dec_le (2 * (length bytes / recordBytes)) (length t.answers))
-    (Dec.and (dec_le t.accepted totalMost) (dec_le t.reversals totalMost)))))
+    (λ p. record { lent = p.0; short = p.1.0; answers_long = p.1.1.0; accepted_most = p.1.1.1.0; reversals_most = p.1.1.1.1 })
+    (λ l. (l.lent, (l.short, (l.answers_long, (l.accepted_most, l.reversals_most)))))
+    (Dec.and (lent_dec n C D t.store t.spare t.waiting)
+    (Dec.and (dec_le (length bytes) stream_most)
+    (Dec.and (dec_le (2 * (length bytes / record_bytes)) (length t.answers))
+    (Dec.and (dec_le t.accepted total_most) (dec_le t.reversals total_most)))))
 
 -- two results and the tables after them are the same, part by part
 pub record Same (r r' : Result) (t t' : Tables) : Type 0 where
@@ -107,9 +107,9 @@ pub record Same (r r' : Result) (t t' : Tables) : Type 0 where
   pub accepted : t.accepted ≡ t'.accepted
   pub reversals : t.reversals ≡ t'.reversals
 
-spare-once : (n C D : ℕ) (o : Option Day) (spare x y : List ℕ) → SpareIs n C D o spare x → SpareIs n C D o spare y → x ≡ y
-spare-once n C D none spare x y a b = a ∙ sym b
-spare-once n C D (some s) spare x y a b = held-once n C D s x y a b
+spare_once : (n C D : ℕ) (o : Option Day) (spare x y : List ℕ) → SpareIs n C D o spare x → SpareIs n C D o spare y → x ≡ y
+spare_once n C D none spare x y a b = a ∙ sym b
+spare_once n C D (some s) spare x y a b = held_once n C D s x y a b
 
 same : (r r' : Result) (t t' : Tables) → r ≡ r' → t ≡ t' → Same r r' t t'
 same r r' t t' e f =
@@ -125,25 +125,25 @@ same r r' t t' e f =
     }
 
 module _ (n C D : ℕ) (bytes : List ℕ) (t : Tables) (r r' : Result) (x y : Tables) where
-  stream-once : StreamCarries n C D bytes t r x → StreamCarries n C D bytes t r' y → Same r r' x y
-  stream-once A B =
+  stream_once : StreamCarries n C D bytes t r x → StreamCarries n C D bytes t r' y → Same r r' x y
+  stream_once A B =
       record {
         stop = A.stop ∙ sym B.stop;
         carried = A.carried ∙ sym B.carried;
-        store = held-once n C D (progress n C D bytes t).day x.store y.store A.holds B.holds;
-        spare = spare-once n C D (progress n C D bytes t).turned t.spare x.spare y.spare A.spared B.spared;
+        store = held_once n C D (progress n C D bytes t).day x.store y.store A.holds B.holds;
+        spare = spare_once n C D (progress n C D bytes t).turned t.spare x.spare y.spare A.spared B.spared;
         waiting = A.waited ∙ sym B.waited;
         answers = A.answered ∙ sym B.answered;
         accepted = A.accepted ∙ sym B.accepted;
         reversals = A.reversals ∙ sym B.reversals;
       }
 
-  pub stream-tight : StreamPromise n C D bytes t r x → StreamPromise n C D bytes t r' y → Same r r' x y
-  stream-tight A B = elim (stream-lent-dec n C D bytes t) [
+  pub stream_tight : StreamPromise n C D bytes t r x → StreamPromise n C D bytes t r' y → Same r r' x y
+  stream_tight A B = elim (stream_lent_dec n C D bytes t) [
     | no h ↦ same r r' x y ((A.sizes h).0 ∙ sym (B.sizes h).0) ((A.sizes h).1 ∙ sym (B.sizes h).1)
-    | yes l ↦ elim (sound-or n C D t.store) [
+    | yes l ↦ elim (sound_or n C D t.store) [
       | inr h ↦ same r r' x y ((A.unsound l h).0 ∙ sym (B.unsound l h).0) ((A.unsound l h).1 ∙ sym (B.unsound l h).1)
-      | inl s ↦ stream-once (A.sound l s) (B.sound l s)
+      | inl s ↦ stream_once (A.sound l s) (B.sound l s)
     ]
   ]
 
@@ -154,27 +154,27 @@ or_comm true false = refl
 or_comm false true = refl
 or_comm false false = refl
 
-run-comm : (p q : Run) → sameRun p q ≡ sameRun q p
-run-comm p q = elim (run-or p q) [
-  | inl e ↦ run-same p q e ∙ sym (run-same q p (sym e))
-  | inr h ↦ run-other p q h ∙ sym (run-other q p (λ e. h (sym e)))
+run_comm : (p q : Run) → same_run p q ≡ same_run q p
+run_comm p q = elim (run_or p q) [
+  | inl e ↦ run_same p q e ∙ sym (run_same q p (sym e))
+  | inr h ↦ run_other p q h ∙ sym (run_other q p (λ e. h (sym e)))
 ]
 
-ask-same : (D : ℕ) (s : Day) (p q : Run) → (call D s (ask p q)).answer ≡ (call D s (ask q p)).answer
-ask-same D s p q =
+ask_same : (D : ℕ) (s : Day) (p q : Run) → (call D s (ask p q)).answer ≡ (call D s (ask q p)).answer
+ask_same D s p q =
     rw (
-      or_comm (badName p) (badName q),
-      run-comm p q,
-      or_comm (not (isOpen s p)) (not (isOpen s q)),
+      or_comm (bad_name p) (bad_name q),
+      run_comm p q,
+      or_comm (not (is_open s p)) (not (is_open s q)),
       or_comm (holds (place_of s q) (list s.lists (place_of s p))) (holds (place_of s p) (list s.lists (place_of s q))),
     )
 
-pub ask-swaps : (n C D : ℕ) (p q : Run) (w : List ℕ) (a b : Answer) (x y : List ℕ) → Promise n C D (ask p q) w a x → Promise n C D (ask q p) w b y → a ≡ b
-ask-swaps n C D p q w a b x y A B =
-    elim (sized-dec n C D w) [
+pub ask_swaps : (n C D : ℕ) (p q : Run) (w : List ℕ) (a b : Answer) (x y : List ℕ) → Promise n C D (ask p q) w a x → Promise n C D (ask q p) w b y → a ≡ b
+ask_swaps n C D p q w a b x y A B =
+    elim (sized_dec n C D w) [
       | no h ↦ (A.sizes h).0 ∙ sym (B.sizes h).0
-      | yes z ↦ elim (sound-or n C D w) [
+      | yes z ↦ elim (sound_or n C D w) [
         | inr h ↦ (A.unsound z h).0 ∙ sym (B.unsound z h).0
-        | inl s ↦ (A.sound s).answer ∙ ask-same D (dayOf n C w) p q ∙ sym (B.sound s).answer
+        | inl s ↦ (A.sound s).answer ∙ ask_same D (day_of n C w) p q ∙ sym (B.sound s).answer
       ]
     ]

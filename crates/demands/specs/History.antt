@@ -1,13 +1,13 @@
 -- Calls one after another, the links that stand, and choices of directions for them: what demands 2 and 3 speak of.
 use Rattle.std.specs.Prelude.{ℕ, ◌+◌, ◌-◌, ◌*◌, ◌≤◌, min, Bool, false, not, ◌||◌, ◌&&◌, List, [], ◌∷◌, map, ◌≡◌}
-use Rattle.terms.specs.Run.{sameRun}
+use Rattle.terms.specs.Run.{same_run}
 use Rattle.terms.specs.Refusal.{value_of}
 use Rattle.terms.specs.declared.run.Run.{Run}
 use Rattle.terms.specs.declared.refusal.Answer.{Answer}
 use Rattle.meaning.specs.Cells.{sum, same}
 use Rattle.meaning.specs.Day.{Day, run_of}
 pub use Rattle.meaning.specs.Stream.{accepts, taken, reversed}
-use Rattle.meaning.specs.Calls.{Call, openRun, closeRun, link, unlink, ask, reading, Outcome, call, yes1}
+use Rattle.meaning.specs.Calls.{Call, open_run, close_run, link, unlink, ask, reading, Outcome, call, yes1}
 
 -- ---- calls in turn, all with the one limit D
 -- the day after them
@@ -17,20 +17,20 @@ after D s (q ∷ qs) = after D (call D s q).after qs
 
 -- the pair x, y is the pair p, q, in either order, each a line and a trip number together
 unfoldable pub same_pair : Run → Run → Run → Run → Bool
-same_pair p q x y = (sameRun p x && sameRun q y) || (sameRun p y && sameRun q x)
+same_pair p q x y = (same_run p x && same_run q y) || (same_run p y && same_run q x)
 
 -- the call, so answered, is an accepted link of p and q; an accepted unlink of them
 abbrev pub joins : Run → Run → Call → Answer → Bool
-joins p q (openRun x) a = false
-joins p q (closeRun x) a = false
+joins p q (open_run x) a = false
+joins p q (close_run x) a = false
 joins p q (link x y) a = accepts a && same_pair p q x y
 joins p q (unlink x y) a = false
 joins p q (ask x y) a = false
 joins p q (reading ps) a = false
 
 abbrev pub parts : Run → Run → Call → Answer → Bool
-parts p q (openRun x) a = false
-parts p q (closeRun x) a = false
+parts p q (open_run x) a = false
+parts p q (close_run x) a = false
 parts p q (link x y) a = false
 parts p q (unlink x y) a = accepts a && same_pair p q x y
 parts p q (ask x y) a = false
@@ -85,7 +85,7 @@ unsure C x y = 1 - same (C x y + C y x) 1
 
 -- 1 where a link of x and y goes outward at p
 unfoldable pub outward : Directions → Run → Run → Run → ℕ
-outward C p x y = yes1 (sameRun p x) * C x y + yes1 (sameRun p y) * C y x
+outward C p x y = yes1 (same_run p x) * C x y + yes1 (same_run p y) * C y x
 
 -- each standing link has exactly one direction, and at most d go outward at each run
 pub record Directed (d : ℕ) (C : Directions) (s : Day) : Type 0 where

@@ -8,9 +8,9 @@ use Rattle.terms.specs.declared.refusal.Refusal.TheVariants.{TooDense}
 use Rattle.terms.specs.declared.refusal.Answer.{Answer}
 use Rattle.terms.specs.declared.refusal.Answer.TheVariants.{Refused}
 use Rattle.meaning.specs.Table.{length_of}
-use Rattle.meaning.specs.Day.{emptyDay, emptyTable}
+use Rattle.meaning.specs.Day.{empty_day, empty_table}
 use Rattle.meaning.specs.Calls.{Call, link, ask, yes1}
-use Rattle.meaning.specs.Stream.{call_of, recordsOf, taken, reversed}
+use Rattle.meaning.specs.Stream.{call_of, records_of, taken, reversed}
 use Rattle.meaning.specs.Promise.{Holds, Carries, Tables, Result, StreamCarries}
 use Rattle.demands.specs.History.{after, related, Directions, DirectedWith, History, calls, AllDirected, changes}
 
@@ -22,33 +22,33 @@ pub data Doing : Type 0 where
   refused : Doing
 
 -- records of a stream count as calls
-abbrev pub callsIn : Doing → List Call
-callsIn (single q a) = q ∷ []
-callsIn (stream bytes t r t') = map call_of (recordsOf bytes).records
-callsIn refused = []
+abbrev pub calls_in : Doing → List Call
+calls_in (single q a) = q ∷ []
+calls_in (stream bytes t r t') = map call_of (records_of bytes).records
+calls_in refused = []
 
-abbrev pub allCalls : List Doing → List Call
-allCalls [] = []
-allCalls (x ∷ xs) = callsIn x ++ allCalls xs
+abbrev pub all_calls : List Doing → List Call
+all_calls [] = []
+all_calls (x ∷ xs) = calls_in x ++ all_calls xs
 
 -- the links accepted and their reversals, as the answers say them and the stream's totals
-abbrev pub acceptedIn : Doing → ℕ
-acceptedIn (single q a) = taken q a
-acceptedIn (stream bytes t r t') = t'.accepted - t.accepted
-acceptedIn refused = 0
+abbrev pub accepted_in : Doing → ℕ
+accepted_in (single q a) = taken q a
+accepted_in (stream bytes t r t') = t'.accepted - t.accepted
+accepted_in refused = 0
 
-abbrev pub reversedIn : Doing → ℕ
-reversedIn (single q a) = reversed q a
-reversedIn (stream bytes t r t') = t'.reversals - t.reversals
-reversedIn refused = 0
+abbrev pub reversed_in : Doing → ℕ
+reversed_in (single q a) = reversed q a
+reversed_in (stream bytes t r t') = t'.reversals - t.reversals
+reversed_in refused = 0
 
-abbrev pub allAccepted : List Doing → ℕ
-allAccepted [] = 0
-allAccepted (x ∷ xs) = acceptedIn x + allAccepted xs
+abbrev pub all_accepted : List Doing → ℕ
+all_accepted [] = 0
+all_accepted (x ∷ xs) = accepted_in x + all_accepted xs
 
-abbrev pub allReversed : List Doing → ℕ
-allReversed [] = 0
-allReversed (x ∷ xs) = reversedIn x + allReversed xs
+abbrev pub all_reversed : List Doing → ℕ
+all_reversed [] = 0
+all_reversed (x ∷ xs) = reversed_in x + all_reversed xs
 
 -- it leads from the words w to the words w'
 abbrev pub Does : ℕ → ℕ → ℕ → List ℕ → Doing → List ℕ → Type 0
@@ -64,16 +64,16 @@ Leads n C D w (x ∷ xs) w' = (m : List ℕ) × Does n C D w x m × Leads n C D 
 pub record Emptied (n C D : ℕ) (xs : List Doing) (w : List ℕ) : Type 0 where
   pub room : InRoom n C
   pub limit : InLimit D
-  pub leads : Leads n C D (emptyTable n C) xs w
+  pub leads : Leads n C D (empty_table n C) xs w
 
 -- the table holds the day that the statements of Demands speak of
 abbrev pub TablesHold : Type 0
-TablesHold = (n C D : ℕ) (xs : List Doing) (w : List ℕ) → Emptied n C D xs w → Holds n C D w (after D (emptyDay n C) (allCalls xs))
+TablesHold = (n C D : ℕ) (xs : List Doing) (w : List ℕ) → Emptied n C D xs w → Holds n C D w (after D (empty_day n C) (all_calls xs))
 
 -- demand 2: asking says yes exactly for the pairs accepted as links and not unlinked since; no list is longer than D
 abbrev pub TablesAsk : Type 0
 TablesAsk = (n C D : ℕ) (xs : List Doing) (w : List ℕ) → Emptied n C D xs w → (p q : Run) (a : Answer) (w' : List ℕ) → Carries n C D (ask p q) w a w'
-    → value_of a ≡ yes1 (related p q D (emptyDay n C) false (allCalls xs))
+    → value_of a ≡ yes1 (related p q D (empty_day n C) false (all_calls xs))
 
 abbrev pub TablesShort : Type 0
 TablesShort = (n C D : ℕ) (xs : List Doing) (w : List ℕ) → Emptied n C D xs w → (v : ℕ) → v < n → length_of n C w v ≤ D
@@ -81,9 +81,9 @@ TablesShort = (n C D : ℕ) (xs : List Doing) (w : List ℕ) → Emptied n C D x
 -- demand 3, with k and the reversals as they were answered
 abbrev pub TablesBound : Type 0
 TablesBound = (n C D d : ℕ) → 2 * d ≤ D → (xs : List Doing) (w : List ℕ) → Emptied n C D xs w
-    → (C₀ : Directions) (h : History) → calls h ≡ allCalls xs → AllDirected d D (emptyDay n C) h
-    → allReversed xs * (D + 1 - 2 * d) ≤ (allAccepted xs + changes D (emptyDay n C) C₀ h) * (D + 1)
+    → (C₀ : Directions) (h : History) → calls h ≡ all_calls xs → AllDirected d D (empty_day n C) h
+    → all_reversed xs * (D + 1 - 2 * d) ≤ (all_accepted xs + changes D (empty_day n C) C₀ h) * (D + 1)
 
 abbrev pub TablesDense : Type 0
 TablesDense = (n C D : ℕ) (xs : List Doing) (w : List ℕ) → Emptied n C D xs w → (p q : Run) (X : Directions)
-    → DirectedWith p q (D / 2) X (after D (emptyDay n C) (allCalls xs)) → (w' : List ℕ) → Carries n C D (link p q) w (Refused TooDense) w' → ⊥
+    → DirectedWith p q (D / 2) X (after D (empty_day n C) (all_calls xs)) → (w' : List ℕ) → Carries n C D (link p q) w (Refused TooDense) w' → ⊥

@@ -3,36 +3,36 @@ use Prim.Native.Nat.{ℕ, ◌≤◌, ◌<◌}
 use mathlib.Core.Bool.{true, false}
 use mathlib.Core.List.{List}
 use mathlib.Core.Path.{◌≡◌}
-use Rattle.terms.specs.Run.{badName, sameRun}
+use Rattle.terms.specs.Run.{bad_name, same_run}
 use Rattle.terms.specs.declared.run.Run.{Run}
 use Rattle.terms.specs.declared.refusal.Refusal.TheVariants.{BadName, SameRun, NotOpen}
-use Rattle.meaning.specs.Day.{dayOf, place_of}
+use Rattle.meaning.specs.Day.{day_of, place_of}
 use Rattle.find.specs.Find.{Found, Barred}
-use Rattle.find.proofs.Finding.{found-open, found-shut}
+use Rattle.find.proofs.Finding.{found_open, found_shut}
 
 module _ (n C : ℕ) (w : List ℕ) (p q : Run) where
-  pub first-bad : badName p ≡ true → Barred n C w p q BadName
-  first-bad e = record { bars = λ ts. rw e }
+  pub first_bad : bad_name p ≡ true → Barred n C w p q BadName
+  first_bad e = record { bars = λ ts. rw e }
 
-  pub second-bad : badName p ≡ false → badName q ≡ true → Barred n C w p q BadName
-  second-bad e f = record { bars = λ ts. rw (e, f) }
+  pub second_bad : bad_name p ≡ false → bad_name q ≡ true → Barred n C w p q BadName
+  second_bad e f = record { bars = λ ts. rw (e, f) }
 
-  module _ (good-p : badName p ≡ false) (good-q : badName q ≡ false) where
-    pub one-run : sameRun p q ≡ true → Barred n C w p q SameRun
-    one-run e = record { bars = λ ts. rw (good-p, good-q, e) }
+  module _ (good-p : bad_name p ≡ false) (good-q : bad_name q ≡ false) where
+    pub one_run : same_run p q ≡ true → Barred n C w p q SameRun
+    one_run e = record { bars = λ ts. rw (good-p, good-q, e) }
 
-    module _ (u v : ℕ) (two : sameRun p q ≡ false) (hu : u ≡ place_of (dayOf n C w) p) where
-      pub first-shut : n ≤ u → Barred n C w p q NotOpen
-      first-shut h = record { bars = λ ts. rw (good-p, good-q, two, found-shut n C w p u hu h) }
+    module _ (u v : ℕ) (two : same_run p q ≡ false) (hu : u ≡ place_of (day_of n C w) p) where
+      pub first_shut : n ≤ u → Barred n C w p q NotOpen
+      first_shut h = record { bars = λ ts. rw (good-p, good-q, two, found_shut n C w p u hu h) }
 
-      pub second-shut : u < n → v ≡ place_of (dayOf n C w) q → n ≤ v → Barred n C w p q NotOpen
-      second-shut hp hv h = record { bars = λ ts. rw (good-p, good-q, two, found-open n C w p u hu hp, found-shut n C w q v hv h) }
+      pub second_shut : u < n → v ≡ place_of (day_of n C w) q → n ≤ v → Barred n C w p q NotOpen
+      second_shut hp hv h = record { bars = λ ts. rw (good-p, good-q, two, found_open n C w p u hu hp, found_shut n C w q v hv h) }
 
-      pub both-open : u < n → v ≡ place_of (dayOf n C w) q → v < n → Found n C w p q (record { first = u; second = v })
-      both-open hp hv hq = record {
+      pub both_open : u < n → v ≡ place_of (day_of n C w) q → v < n → Found n C w p q (record { first = u; second = v })
+      both_open hp hv hq = record {
         first = hu;
         second = hv;
-        first-place = hp;
-        second-place = hq;
-        passed = λ ts. rw (good-p, good-q, two, found-open n C w p u hu hp, found-open n C w q v hv hq);
+        first_place = hp;
+        second_place = hq;
+        passed = λ ts. rw (good-p, good-q, two, found_open n C w p u hu hp, found_open n C w q v hv hq);
       }

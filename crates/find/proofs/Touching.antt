@@ -8,16 +8,16 @@ use native.Mathlib.Decide.{ℕ_discrete}
 use native.Mathlib.Omega.{arith}
 use borrow.Author.Count.{below_more}
 use borrow.Author.Tests.{lt-ltb, le-ltb}
-use Rattle.meaning.specs.Table.{NONE, head_of, length_of, ownerOf, target_of}
-use Rattle.meaning.specs.Cells.{Cell, Weight, list, rowSum, sum, same}
-use Rattle.meaning.specs.Day.{cells, cells_of, dayOf}
+use Rattle.meaning.specs.Table.{NONE, head_of, length_of, owner_of, target_of}
+use Rattle.meaning.specs.Cells.{Cell, Weight, list, row_sum, sum, same}
+use Rattle.meaning.specs.Day.{cells, cells_of, day_of}
 use Rattle.meaning.specs.Calls.{touched}
-use Rattle.meaning.proofs.Same.{same-eq, same-ne}
+use Rattle.meaning.proofs.Same.{same_eq, same_ne}
 use Rattle.meaning.proofs.Crossing.{row_of}
-use Rattle.meaning.proofs.Held.{held, held-within, along-at, parted}
-use Rattle.meaning.proofs.Lists.{each-length}
-use Rattle.meaning.proofs.Pairs.{rows_none, cell-part, cells-none}
-use Rattle.meaning.proofs.Sums.{rowSum-le, rowSum-one, row-le}
+use Rattle.meaning.proofs.Held.{held, held_within, along_at, parted}
+use Rattle.meaning.proofs.Lists.{each_length}
+use Rattle.meaning.proofs.Pairs.{rows_none, cell_part, cells_none}
+use Rattle.meaning.proofs.Sums.{row_sum-le, row_sum_one, row_le}
 use Rattle.meaning.proofs.Threaded.{Threaded, list_length}
 use Rattle.meaning.proofs.Times.{times}
 
@@ -32,11 +32,11 @@ module _ (n C : ℕ) (w : List ℕ) where
     pub most : i ≤ C
     pub none : (k : ℕ) → k < i → target_of n C w k ≡ v → ⊥
 
-  pub unaimed-start : (v many : ℕ) → many ≡ length_of n C w v → many ≡ 0 → Unaimed v 0
-  unaimed-start v many e z = record { bare = sym e ∙ z; most = omega arith; none = λ k h. absurd (omega arith) }
+  pub unaimed_start : (v many : ℕ) → many ≡ length_of n C w v → many ≡ 0 → Unaimed v 0
+  unaimed_start v many e z = record { bare = sym e ∙ z; most = omega arith; none = λ k h. absurd (omega arith) }
 
-  pub unaimed-more : (v i aim : ℕ) → Unaimed v i → i < C → aim ≡ target_of n C w i → (aim ≡ v → ⊥) → Unaimed v (i + 1)
-  unaimed-more v i aim u h e d = record {
+  pub unaimed_more : (v i aim : ℕ) → Unaimed v i → i < C → aim ≡ target_of n C w i → (aim ≡ v → ⊥) → Unaimed v (i + 1)
+  unaimed_more v i aim u h e d = record {
     bare = u.bare;
     most = omega arith;
     none = below_more (λ k. target_of n C w k ≡ v → ⊥) i u.none (λ q. d (e ∙ q));
@@ -44,48 +44,48 @@ module _ (n C : ℕ) (w : List ℕ) where
 
   module _ (T : Threaded n C w) (v : ℕ) (hv : v < n) where
     -- what a list counts for is a part of the whole
-    part : (u : ℕ) → u < n → rowSum (ends v u) (cells_of n C w u) ≤ sum (ends v) (dayOf n C w).lists
-    part u h = rw (← row_of n C w u h) (row-le (ends v) (dayOf n C w).lists u)
+    part : (u : ℕ) → u < n → row_sum (ends v u) (cells_of n C w u) ≤ sum (ends v) (day_of n C w).lists
+    part u h = rw (← row_of n C w u h) (row_le (ends v) (day_of n C w).lists u)
 
-    some : 0 < sum (ends v) (dayOf n C w).lists → true ≡ touched (dayOf n C w) v
-    some h = sym (lt-ltb 0 (sum (ends v) (dayOf n C w).lists) h)
+    some : 0 < sum (ends v) (day_of n C w).lists → true ≡ touched (day_of n C w) v
+    some h = sym (lt-ltb 0 (sum (ends v) (day_of n C w).lists) h)
 
-    pub own-touched : (many : ℕ) → many ≡ length_of n C w v → (many ≡ 0 → ⊥) → true ≡ touched (dayOf n C w) v
-    own-touched many e d =
+    pub own_touched : (many : ℕ) → many ≡ length_of n C w v → (many ≡ 0 → ⊥) → true ≡ touched (day_of n C w) v
+    own_touched many e d =
         let l : List Cell = cells_of n C w v in
-        let a : rowSum (λ c. 1) l ≤ rowSum (ends v v) l = rowSum-le (λ c. 1) (ends v v) l (λ c. omega (arith, same-eq v v refl)) in
-        some (omega (arith, part v hv, rowSum-one l, list_length n C w T v (omega arith), d))
+        let a : row_sum (λ c. 1) l ≤ row_sum (ends v v) l = row_sum-le (λ c. 1) (ends v v) l (λ c. omega (arith, same_eq v v refl)) in
+        some (omega (arith, part v hv, row_sum_one l, list_length n C w T v (omega arith), d))
 
-    pub aimed-touched : (i aim : ℕ) → i < C → aim ≡ target_of n C w i → aim ≡ v → true ≡ touched (dayOf n C w) v
-    aimed-touched i aim h e f =
-        let u : ℕ = ownerOf n C w i in
+    pub aimed_touched : (i aim : ℕ) → i < C → aim ≡ target_of n C w i → aim ≡ v → true ≡ touched (day_of n C w) v
+    aimed_touched i aim h e f =
+        let u : ℕ = owner_of n C w i in
         let p : (u ≤ n) × (times i (held n C w u) ≡ 1) = parted n C w (omega (arith, T.room)) T.reaches T.whole i h in
         let t : target_of n C w i ≡ v = sym e ∙ f in
         elim (ℕ_discrete u n) [
           | yes o ↦ absurd (
               let q : times i (held n C w n) ≡ 1 = rw o at p.1 in
-              omega (arith, T.room, along-at n C w (λ k. target_of n C w k ≡ NONE) (length_of n C w n) (head_of n C w n) T.freed i (omega arith))
+              omega (arith, T.room, along_at n C w (λ k. target_of n C w k ≡ NONE) (length_of n C w n) (head_of n C w n) T.freed i (omega arith))
               )
           | no o ↦ some (
               omega (
                 arith,
                 part u (omega (arith, p.0, o)),
-                cell-part n C w (ends v u) (length_of n C w u) (head_of n C w u) i (omega (arith, p.1)),
-                same-eq (target_of n C w i) v t,
+                cell_part n C w (ends v u) (length_of n C w u) (head_of n C w u) i (omega (arith, p.1)),
+                same_eq (target_of n C w i) v t,
               )
               )
         ]
 
-    pub untouched : (i : ℕ) → Unaimed v i → C ≤ i → false ≡ touched (dayOf n C w) v
+    pub untouched : (i : ℕ) → Unaimed v i → C ≤ i → false ≡ touched (day_of n C w) v
     unfolding cells
     untouched i a h =
-        let z : sum (ends v) (dayOf n C w).lists ≡ 0 = rows_none (ends v) (dayOf n C w).lists (λ u p. row u (rw (each-length n (cells_of n C w)) at p)) in
-        sym (le-ltb 0 (sum (ends v) (dayOf n C w).lists) (omega arith))
+        let z : sum (ends v) (day_of n C w).lists ≡ 0 = rows_none (ends v) (day_of n C w).lists (λ u p. row u (rw (each_length n (cells_of n C w)) at p)) in
+        sym (le-ltb 0 (sum (ends v) (day_of n C w).lists) (omega arith))
       where
-        row : (u : ℕ) → u < n → rowSum (ends v u) (list (dayOf n C w).lists u) ≡ 0
+        row : (u : ℕ) → u < n → row_sum (ends v u) (list (day_of n C w).lists u) ≡ 0
         row u p = rw (row_of n C w u p) (elim (ℕ_discrete u v) [
           | yes e ↦ rw (e, a.bare)
-          | no e ↦ cells-none n C w (ends v u) (length_of n C w u) (head_of n C w u) (λ j q.
-              let c : j < C = held-within n C w (omega (arith, T.room)) T.reaches u j (omega arith) q in
-              omega (arith, same-ne u v e, same-ne (target_of n C w j) v (a.none j (omega arith))))
+          | no e ↦ cells_none n C w (ends v u) (length_of n C w u) (head_of n C w u) (λ j q.
+              let c : j < C = held_within n C w (omega (arith, T.room)) T.reaches u j (omega arith) q in
+              omega (arith, same_ne u v e, same_ne (target_of n C w j) v (a.none j (omega arith))))
         ])

@@ -6,9 +6,9 @@ use Rattle.terms.specs.declared.run.Run.{Run}
 use Rattle.terms.specs.declared.refusal.Refusal.{Refusal}
 use Rattle.meaning.specs.Cells.{seek}
 use Rattle.meaning.specs.Table.{length_of}
-use Rattle.meaning.specs.Day.{cells_of, dayOf, place_of}
-use Rattle.meaning.specs.Calls.{Tests, pairTests, firstRefusal}
-use Rattle.meaning.proofs.Steps.{cell_at, hookAt}
+use Rattle.meaning.specs.Day.{cells_of, day_of, place_of}
+use Rattle.meaning.specs.Calls.{Tests, pair_tests, first_refusal}
+use Rattle.meaning.proofs.Steps.{cell_at, hook_at}
 use Rattle.find.specs.declared.Spot.{Spot}
 use Rattle.find.specs.declared.Seen.{Seen}
 use Rattle.find.specs.declared.Seen.TheVariants.{At, Nowhere}
@@ -22,7 +22,7 @@ use Rattle.find.specs.declared.Named.TheVariants.{Both, Refused}
 pub record Spot-of (s : Spot) (n C : ℕ) (w : List ℕ) (v : ℕ) : Type 0 where
   pub within : s.position < length_of n C w v
   pub cell : s.cell ≡ cell_at n C w v s.position
-  pub hook : s.hook ≡ hookAt n C w v s.position
+  pub hook : s.hook ≡ hook_at n C w v s.position
 
 -- it is that of v's first link to t
 pub record Spotted (s : Spot) (n C : ℕ) (w : List ℕ) (v t : ℕ) : Type 0 where
@@ -45,14 +45,14 @@ Links Neither n C w u v = Absent n C w u v × Absent n C w v u
 
 -- two named runs: their places, which pass the tests 3 to 5, or the first of these that holds
 pub record Found (n C : ℕ) (w : List ℕ) (p q : Run) (e : Ends) : Type 0 where
-  pub first : e.first ≡ place_of (dayOf n C w) p
-  pub second : e.second ≡ place_of (dayOf n C w) q
-  pub first-place : e.first < n
-  pub second-place : e.second < n
-  pub passed : (ts : Tests) → firstRefusal (pairTests (dayOf n C w) p q ts) ≡ firstRefusal ts
+  pub first : e.first ≡ place_of (day_of n C w) p
+  pub second : e.second ≡ place_of (day_of n C w) q
+  pub first_place : e.first < n
+  pub second_place : e.second < n
+  pub passed : (ts : Tests) → first_refusal (pair_tests (day_of n C w) p q ts) ≡ first_refusal ts
 
 pub record Barred (n C : ℕ) (w : List ℕ) (p q : Run) (why : Refusal) : Type 0 where
-  pub bars : (ts : Tests) → firstRefusal (pairTests (dayOf n C w) p q ts) ≡ some why
+  pub bars : (ts : Tests) → first_refusal (pair_tests (day_of n C w) p q ts) ≡ some why
 
 abbrev pub Finds : Named → ℕ → ℕ → List ℕ → Run → Run → Type 0
 Finds (Both e) n C w p q = Found n C w p q e

@@ -4,7 +4,7 @@ pub mod touch;
 
 ghost use Rattle.std.specs.Prelude.{◌≤◌, ◌<◌, ◌≡◌};
 ghost use Rattle.meaning.specs.Cells.{links};
-ghost use Rattle.meaning.specs.Day.{dayOf, place_of, lowest};
+ghost use Rattle.meaning.specs.Day.{day_of, place_of, lowest};
 ghost use Rattle.meaning.proofs.Threaded.{Threaded};
 ghost use Rattle.find.specs.Find.{Seeks, Links, Finds};
 ghost use Rattle.table.specs.Within.{Within};
@@ -16,7 +16,7 @@ use terms::run::Run;
 // The place that has the run's line and trip number, n where none has.
 pub fn place(store: &[u32], n: usize, c: usize, run: Run) -> usize
     requires { Within n c store.now }
-    ensures { (result ≡ place_of (dayOf n c store.now) run) × (result ≤ n) }
+    ensures { (result ≡ place_of (day_of n c store.now) run) × (result ≤ n) }
 {
     let mut v: usize = 0;
     while v < n {
@@ -31,7 +31,7 @@ pub fn place(store: &[u32], n: usize, c: usize, run: Run) -> usize
 // The lowest place with line 0, n where none is free.
 pub fn free_place(store: &[u32], n: usize, c: usize) -> usize
     requires { Within n c store.now }
-    ensures { (result ≡ lowest (dayOf n c store.now)) × (result ≤ n) }
+    ensures { (result ≡ lowest (day_of n c store.now)) × (result ≤ n) }
 {
     let mut lowest: usize = 0;
     while lowest < n {
@@ -47,7 +47,7 @@ pub fn free_place(store: &[u32], n: usize, c: usize) -> usize
 // The number of links that stand: every cell that is not free.
 pub fn standing(store: &[u32], n: usize, c: usize) -> usize
     requires { Threaded n c store.now }
-    ensures { result ≡ links (dayOf n c store.now).lists }
+    ensures { result ≡ links (day_of n c store.now).lists }
 {
     c - section::count(store, n, c, n)
 }

@@ -1,6 +1,6 @@
 // Whether a link touches a place: refusal 10 of close.
 ghost use Rattle.std.specs.Prelude.{◌<◌, ◌≡◌};
-ghost use Rattle.meaning.specs.Day.{dayOf};
+ghost use Rattle.meaning.specs.Day.{day_of};
 ghost use Rattle.meaning.specs.Calls.{touched};
 ghost use Rattle.meaning.proofs.Threaded.{Threaded};
 
@@ -10,7 +10,7 @@ use table::section;
 // cell aims at NONE, so a scan over all cells asks only the lists of places.
 pub fn touched(store: &[u32], n: usize, c: usize, v: usize) -> bool
     requires { Threaded n c store.now × (v < n) }
-    ensures { result ≡ touched (dayOf n c store.now) v }
+    ensures { result ≡ touched (day_of n c store.now) v }
 {
     let many = section::count(store, n, c, v);
     if many != 0 {

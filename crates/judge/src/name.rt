@@ -1,6 +1,6 @@
 // Rule 1: every line word within its limit, a free place's number 0, and no two open places of one name.
 ghost use Rattle.std.specs.Prelude.{ℕ, ◌<◌, ◌≡◌};
-ghost use Rattle.judge.specs.Bucket.{buckets, bucketOf, Chains};
+ghost use Rattle.judge.specs.Bucket.{buckets, bucket_of, Chains};
 ghost use Rattle.meaning.proofs.Judged.{Line, Differ, Fresh};
 ghost use Rattle.table.specs.Within.{Within, AtPlace};
 ghost use Rattle.terms.specs.Tells.{Tells};
@@ -49,7 +49,7 @@ fn differ(store: &[u32], n: usize, c: usize, v: usize, u: usize) -> bool
 // The bucket of v's name: places of one name have one bucket.
 fn bucket(store: &[u32], n: usize, c: usize, v: usize) -> usize
     requires { AtPlace n c store.now v }
-    ensures { (result ≡ bucketOf n c store.now v) × (result < buckets) }
+    ensures { (result ≡ bucket_of n c store.now v) × (result < buckets) }
 {
     let a = section::line(store, n, c, v);
     let b = section::number(store, n, c, v);

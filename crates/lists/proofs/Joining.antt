@@ -13,36 +13,36 @@ use Rattle.terms.specs.declared.refusal.Refusal.TheVariants.{NoRoom, TooDense}
 use Rattle.meaning.specs.Cells.{Cell, Lists, list, push, links}
 use Rattle.meaning.specs.Table.{head_of, length_of}
 use Rattle.meaning.specs.Turning.{over, put, Ending, turning}
-use Rattle.meaning.specs.Day.{Day, dayOf, cells_of}
-use Rattle.meaning.specs.Calls.{Outcome, ended, link_in, doLink}
-use Rattle.meaning.proofs.Same.{same-ne}
-use Rattle.meaning.proofs.Counts.{links-count}
-use Rattle.meaning.proofs.Crossing.{sound-right}
-use Rattle.meaning.proofs.Effects.{same-day, day-list, free-first, free-length, link-moves, link-day}
-use Rattle.meaning.proofs.Lists.{each-length}
+use Rattle.meaning.specs.Day.{Day, day_of, cells_of}
+use Rattle.meaning.specs.Calls.{Outcome, ended, link_in, do_link}
+use Rattle.meaning.proofs.Same.{same_ne}
+use Rattle.meaning.proofs.Counts.{links_count}
+use Rattle.meaning.proofs.Crossing.{sound_right}
+use Rattle.meaning.proofs.Effects.{same_day, day_list, free_first, free_length, link_moves, link_day}
+use Rattle.meaning.proofs.Lists.{each_length}
 use Rattle.meaning.proofs.Right.{Right, outside, loop}
 use Rattle.meaning.proofs.Steps.{moved}
-use Rattle.meaning.proofs.Sums.{push-sum}
-use Rattle.meaning.proofs.Threaded.{Threaded, sound-threaded, list_length}
-use Rattle.meaning.proofs.Turnings.{begun-waits}
-use Rattle.meaning.proofs.Waiting.{Waits, none-waits, push-list}
+use Rattle.meaning.proofs.Sums.{push_sum}
+use Rattle.meaning.proofs.Threaded.{Threaded, sound_threaded, list_length}
+use Rattle.meaning.proofs.Turnings.{begun_waits}
+use Rattle.meaning.proofs.Waiting.{Waits, none_waits, push_list}
 use Rattle.lists.specs.Cell.{Shifts, Front}
 use Rattle.lists.specs.Turning.{lists_of, Begins, Ends}
 use Rattle.lists.specs.Join.{Settling, Settles, Joins, joining, Joined}
 use Rattle.find.specs.declared.Spot.{Spot}
 use Rattle.lists.specs.declared.turning.Ended.{Ended}
 use Rattle.lists.specs.declared.turning.Ended.TheVariants.{Settled, TooDense as Dense}
-use Rattle.lists.proofs.Shifting.{front-spot}
+use Rattle.lists.proofs.Shifting.{front_spot}
 
 -- ---- adding the cell
-pub add-shift : (n C : ℕ) (w : List ℕ) (u v : ℕ) (k : Spot) → Threaded n C w → u < n → v < n → 0 < length_of n C w n → Front k n C w n → Shifts n C w n k u v
-add-shift n C w u v k T hu hv some f = record {
+pub add_shift : (n C : ℕ) (w : List ℕ) (u v : ℕ) (k : Spot) → Threaded n C w → u < n → v < n → 0 < length_of n C w n → Front k n C w n → Shifts n C w n k u v
+add_shift n C w u v k T hu hv some f = record {
   threaded = T;
   from = omega arith;
   to = omega arith;
   other = λ e. omega arith;
-  spot = front-spot k n C w n f some;
-  word = omega (arith, T.room.places-most);
+  spot = front_spot k n C w n f some;
+  word = omega (arith, T.room.places_at_most);
 }
 
 pub add_words : (n C : ℕ) (w : List ℕ) (u v : ℕ) (k : Spot) (w' : List ℕ) → Front k n C w n → w' ≡ moved n C w n k.position u v → w' ≡ moved n C w n 0 u v
@@ -50,58 +50,58 @@ add_words n C w u v k w' f e = e ∙ ap (λ (p : ℕ). moved n C w n p u v) f.po
 
 -- ---- settling
 module _ (n C D u : ℕ) (s spare waiting : List ℕ) (q : Settling n C D u s spare waiting) (m : ℕ) (m-is : m ≡ links (lists_of n C s)) where
-  pub settle-begins : Begins n C D m u s waiting
-  settle-begins = record { linked = q.linked; room = q.waiting-long; place = q.place; most = omega (arith, m-is, links-count n C s q.linked.threaded); waits = q.waits }
+  pub settle_begins : Begins n C D m u s waiting
+  settle_begins = record { linked = q.linked; room = q.waiting_long; place = q.place; most = omega (arith, m-is, links_count n C s q.linked.threaded); waits = q.waits }
 
   module _ (r : Ended) (s' wt wt' : List ℕ) (en : Ends r n C D m u s s') (long : length wt ≡ n) (z : wt' ≡ replicate (length wt) 0) where
     zeros : wt' ≡ replicate n 0
     zeros = z ∙ ap (λ (k : ℕ). replicate k 0) long
 
-    pub settle-done : (k : ℕ) → r ≡ Settled k → Settles (Settled k) n C D u s spare s' wt'
-    settle-done k g =
+    pub settle_done : (k : ℕ) → r ≡ Settled k → Settles (Settled k) n C D u s spare s' wt'
+    settle_done k g =
         let h : Ends (Settled k) n C D m u s s' = subst (λ (x : Ended). Ends x n C D m u s s') g en in
         (rw m-is at h.0, h.1, h.2, zeros)
 
-    pub settle-dense : (s'' : List ℕ) → r ≡ Dense → s'' ≡ spare → Settles Dense n C D u s spare s'' wt'
-    settle-dense s'' g h =
+    pub settle_dense : (s'' : List ℕ) → r ≡ Dense → s'' ≡ spare → Settles Dense n C D u s spare s'' wt'
+    settle_dense s'' g h =
         let a : Ends Dense n C D m u s s' = subst (λ (x : Ended). Ends x n C D m u s s') g en in
         (rw m-is at a, h, zeros)
 
 -- ---- the whole
 module _ (n C D u v : ℕ) (w spare waiting : List ℕ) (q : Joins n C D u v w spare waiting) where
   T : Threaded n C w
-  T = sound-threaded n C D w q.sound
+  T = sound_threaded n C D w q.sound
 
-  R : Right n D (dayOf n C w)
-  R = sound-right n C D w q.sound
+  R : Right n D (day_of n C w)
+  R = sound_right n C D w q.sound
 
-  count-u : length (list (lists_of n C w) u) ≡ length_of n C w u
-  count-u = ap length (day-list n C w u q.first) ∙ list_length n C w T u (omega (arith, q.first))
+  count_u : length (list (lists_of n C w) u) ≡ length_of n C w u
+  count_u = ap length (day_list n C w u q.first) ∙ list_length n C w T u (omega (arith, q.first))
 
   rows : length (lists_of n C w) ≡ n
-  rows = each-length n (cells_of n C w)
+  rows = each_length n (cells_of n C w)
 
-  none_free : (l : List ℕ) → length l ≡ 0 → (doLink D (dayOf n C w) u v l).answer ≡ Refused NoRoom
+  none_free : (l : List ℕ) → length l ≡ 0 → (do_link D (day_of n C w) u v l).answer ≡ Refused NoRoom
   none_free [] h = refl
   none_free (i ∷ l) h = absurd (omega arith)
 
-  none-day : (l : List ℕ) → length l ≡ 0 → (doLink D (dayOf n C w) u v l).after ≡ dayOf n C w
-  none-day [] h = refl
-  none-day (i ∷ l) h = absurd (omega arith)
+  none_day : (l : List ℕ) → length l ≡ 0 → (do_link D (day_of n C w) u v l).after ≡ day_of n C w
+  none_day [] h = refl
+  none_day (i ∷ l) h = absurd (omega arith)
 
-  none-began : (l : List ℕ) → length l ≡ 0 → (doLink D (dayOf n C w) u v l).began ≡ false
-  none-began [] h = refl
-  none-began (i ∷ l) h = absurd (omega arith)
+  none_began : (l : List ℕ) → length l ≡ 0 → (do_link D (day_of n C w) u v l).began ≡ false
+  none_began [] h = refl
+  none_began (i ∷ l) h = absurd (omega arith)
 
-  pub join-full : (free : ℕ) → free ≡ length_of n C w n → free ≡ 0 → Joined n C D u v w spare waiting (Refused NoRoom) w spare waiting
-  join-full free e z =
-      let h : length (dayOf n C w).free ≡ 0 = free-length n C w ∙ (sym e ∙ z) in
+  pub join_full : (free : ℕ) → free ≡ length_of n C w n → free ≡ 0 → Joined n C D u v w spare waiting (Refused NoRoom) w spare waiting
+  join_full free e z =
+      let h : length (day_of n C w).free ≡ 0 = free_length n C w ∙ (sym e ∙ z) in
       record {
-        answer = sym (none_free (dayOf n C w).free h);
+        answer = sym (none_free (day_of n C w).free h);
         threaded = T;
-        day = sym (none-day (dayOf n C w).free h);
-        spared = rw (none-began (dayOf n C w).free h);
-        waited = rw (none-began (dayOf n C w).free h);
+        day = sym (none_day (day_of n C w).free h);
+        spared = rw (none_began (day_of n C w).free h);
+        waited = rw (none_began (day_of n C w).free h);
       }
 
   module _ (free : ℕ) (ef : free ≡ length_of n C w n) (some : free ≡ 0 → ⊥) where
@@ -112,14 +112,14 @@ module _ (n C D u v : ℕ) (w spare waiting : List ℕ) (q : Joins n C D u v w s
     some' = omega (arith, some)
 
     fs : List ℕ
-    fs = (free-first n C w some').0
+    fs = (free_first n C w some').0
 
-    free-is : (dayOf n C w).free ≡ i ∷ fs
+    free_is : (day_of n C w).free ≡ i ∷ fs
     unfolding i fs
-    free-is = (free-first n C w some').1
+    free_is = (free_first n C w some').1
 
-    pub join-add : Threaded n C w × (u < n) × (v < n) × (0 < length_of n C w n)
-    join-add = (T, q.first, q.second, some')
+    pub join_add : Threaded n C w × (u < n) × (v < n) × (0 < length_of n C w n)
+    join_add = (T, q.first, q.second, some')
 
     c : Cell
     c = record { index = i; target = v }
@@ -127,95 +127,95 @@ module _ (n C D u v : ℕ) (w spare waiting : List ℕ) (q : Joins n C D u v w s
     L : Lists
     L = push (lists_of n C w) u c
 
-    joining-is : joining n C D u v w ≡ link_in D (dayOf n C w) u v i fs
-    joining-is = ap (doLink D (dayOf n C w) u v) free-is
+    joining_is : joining n C D u v w ≡ link_in D (day_of n C w) u v i fs
+    joining_is = ap (do_link D (day_of n C w) u v) free_is
 
     added : Day
-    added = record { runs = (dayOf n C w).runs; lists = L; free = fs }
+    added = record { runs = (day_of n C w).runs; lists = L; free = fs }
 
-    count-L : length (list L u) ≡ length_of n C w u + 1
+    count_L : length (list L u) ≡ length_of n C w u + 1
     unfolding L
-    count-L = ap length (push-list (lists_of n C w) u c (rw rows q.first)) ∙ (ap suc count-u ∙ sym (add-one _))
+    count_L = ap length (push_list (lists_of n C w) u c (rw rows q.first)) ∙ (ap suc count_u ∙ sym (add-one _))
 
     module _ (s : List ℕ) (es : s ≡ moved n C w n 0 u v) where
-      s-threaded : Threaded n C s
-      s-threaded = rw es (link-moves n C w T u v i fs q.first free-is).threaded
+      s_threaded : Threaded n C s
+      s_threaded = rw es (link_moves n C w T u v i fs q.first free_is).threaded
 
-      s-day : dayOf n C s ≡ added
+      s_day : day_of n C s ≡ added
       unfolding added L c
-      s-day = rw es (link-day n C w T u v i fs q.first free-is)
+      s_day = rw es (link_day n C w T u v i fs q.first free_is)
 
-      s-lists : lists_of n C s ≡ L
+      s_lists : lists_of n C s ≡ L
       unfolding added
-      s-lists = ap (λ (d : Day). d.lists) s-day
+      s_lists = ap (λ (d : Day). d.lists) s_day
 
       -- the list stays within the limit
-      pub join-short : (many : ℕ) → many ≡ length_of n C w u → many < D → Joined n C D u v w spare waiting (Done 0) s spare waiting
+      pub join_short : (many : ℕ) → many ≡ length_of n C w u → many < D → Joined n C D u v w spare waiting (Done 0) s spare waiting
       unfolding added L c
-      join-short many em h =
-          let o : over D L u ≡ false = ne_eqb (length (list L u)) (D + 1) (λ e. omega (arith, count-L)) in
-          let j : joining n C D u v w ≡ record { answer = Done 0; after = added; began = false } = joining-is ∙ rw (link_in, o) in
+      join_short many em h =
+          let o : over D L u ≡ false = ne_eqb (length (list L u)) (D + 1) (λ e. omega (arith, count_L)) in
+          let j : joining n C D u v w ≡ record { answer = Done 0; after = added; began = false } = joining_is ∙ rw (link_in, o) in
           record {
             answer = sym (ap (λ (x : Outcome). x.answer) j);
-            threaded = s-threaded;
-            day = s-day ∙ sym (ap (λ (x : Outcome). x.after) j);
+            threaded = s_threaded;
+            day = s_day ∙ sym (ap (λ (x : Outcome). x.after) j);
             spared = rw j;
             waited = rw j;
           }
 
       module _ (many : ℕ) (em : many ≡ length_of n C w u) (h : D ≤ many) (copied : List ℕ) (ec : copied ≡ w) where
-        is-over : over D L u ≡ true
-        is-over = eq-eqb (length (list L u)) (D + 1) (omega (arith, count-L, R.short u, count-u))
+        is_over : over D L u ≡ true
+        is_over = eq-eqb (length (list L u)) (D + 1) (omega (arith, count_L, R.short u, count_u))
 
-        joining-turns : joining n C D u v w ≡ ended (dayOf n C w) fs (turning D (links L) L (u ∷ []) 0)
+        joining_turns : joining n C D u v w ≡ ended (day_of n C w) fs (turning D (links L) L (u ∷ []) 0)
         unfolding L c
-        joining-turns = joining-is ∙ rw (link_in, is-over)
+        joining_turns = joining_is ∙ rw (link_in, is_over)
 
-        pub join-settling : Settling n C D u s copied waiting
+        pub join_settling : Settling n C D u s copied waiting
         unfolding L c
-        join-settling = record {
+        join_settling = record {
           linked = record {
-            threaded = s-threaded;
+            threaded = s_threaded;
             limit = q.sound.sized.limit.most;
-            inside = rw s-lists (omega (arith, push-sum (outside n) (lists_of n C w) u c (rw rows q.first), R.inside, q.first, q.second));
-            unlooped = rw s-lists (omega (arith, push-sum loop (lists_of n C w) u c (rw rows q.first), R.unlooped, same-ne u v q.apart));
+            inside = rw s_lists (omega (arith, push_sum (outside n) (lists_of n C w) u c (rw rows q.first), R.inside, q.first, q.second));
+            unlooped = rw s_lists (omega (arith, push_sum loop (lists_of n C w) u c (rw rows q.first), R.unlooped, same_ne u v q.apart));
           };
-          spare-long = ap length ec ∙ q.sound.sized.long;
-          waiting-long = q.waiting-long;
+          spare_long = ap length ec ∙ q.sound.sized.long;
+          waiting_long = q.waiting_long;
           place = q.first;
           waits =
-              subst (λ (ls : Lists). Waits D ls (u ∷ [])) (sym s-lists)
-              (subst (λ (b : Bool). Waits D L (put b u [])) is-over (begun-waits D (lists_of n C w) u c (rw rows q.first) (none-waits D (lists_of n C w) R.short)));
+              subst (λ (ls : Lists). Waits D ls (u ∷ [])) (sym s_lists)
+              (subst (λ (b : Bool). Waits D L (put b u [])) is_over (begun_waits D (lists_of n C w) u c (rw rows q.first) (none_waits D (lists_of n C w) R.short)));
         }
 
         module _ (x : Ended) (s' wt' : List ℕ) (st : Settles x n C D u s copied s' wt') where
-          turned-L : (e : Ending) → turning D (links (lists_of n C s)) (lists_of n C s) (u ∷ []) 0 ≡ e → turning D (links L) L (u ∷ []) 0 ≡ e
-          turned-L e k = subst (λ (ls : Lists). turning D (links ls) ls (u ∷ []) 0 ≡ e) s-lists k
+          turned_L : (e : Ending) → turning D (links (lists_of n C s)) (lists_of n C s) (u ∷ []) 0 ≡ e → turning D (links L) L (u ∷ []) 0 ≡ e
+          turned_L e k = subst (λ (ls : Lists). turning D (links ls) ls (u ∷ []) 0 ≡ e) s_lists k
 
-          pub join-settled : (r : ℕ) → x ≡ Settled r → Joined n C D u v w spare waiting (Done r) s' copied wt'
+          pub join_settled : (r : ℕ) → x ≡ Settled r → Joined n C D u v w spare waiting (Done r) s' copied wt'
           unfolding added
-          join-settled r g =
+          join_settled r g =
               let a : Settles (Settled r) n C D u s copied s' wt' = subst (λ (y : Ended). Settles y n C D u s copied s' wt') g st in
-              let j : joining n C D u v w ≡ record { answer = Done r; after = record { runs = (dayOf n C w).runs; lists = lists_of n C s'; free = fs }; began = true }
-              = joining-turns ∙ ap (ended (dayOf n C w) fs) (turned-L _ a.0) in
+              let j : joining n C D u v w ≡ record { answer = Done r; after = record { runs = (day_of n C w).runs; lists = lists_of n C s'; free = fs }; began = true }
+              = joining_turns ∙ ap (ended (day_of n C w) fs) (turned_L _ a.0) in
               record {
                 answer = sym (ap (λ (y : Outcome). y.answer) j);
                 threaded = a.1;
-                day = same-day (dayOf n C s') _ (a.2.runs ∙ ap (λ (d : Day). d.runs) s-day) refl (a.2.free ∙ ap (λ (d : Day). d.free) s-day)
+                day = same_day (day_of n C s') _ (a.2.runs ∙ ap (λ (d : Day). d.runs) s_day) refl (a.2.free ∙ ap (λ (d : Day). d.free) s_day)
                     ∙ sym (ap (λ (y : Outcome). y.after) j);
                 spared = rw (j, ec);
                 waited = rw (j, a.3);
               }
 
-          pub join-dense : x ≡ Dense → Joined n C D u v w spare waiting (Refused TooDense) s' copied wt'
-          join-dense g =
+          pub join_dense : x ≡ Dense → Joined n C D u v w spare waiting (Refused TooDense) s' copied wt'
+          join_dense g =
               let a : Settles Dense n C D u s copied s' wt' = subst (λ (y : Ended). Settles y n C D u s copied s' wt') g st in
-              let j : joining n C D u v w ≡ record { answer = Refused TooDense; after = dayOf n C w; began = true } = joining-turns ∙ ap (ended (dayOf n C w) fs) (turned-L _ a.0) in
+              let j : joining n C D u v w ≡ record { answer = Refused TooDense; after = day_of n C w; began = true } = joining_turns ∙ ap (ended (day_of n C w) fs) (turned_L _ a.0) in
               let e : s' ≡ w = a.1 ∙ ec in
               record {
                 answer = sym (ap (λ (y : Outcome). y.answer) j);
                 threaded = rw e T;
-                day = ap (dayOf n C) e ∙ sym (ap (λ (y : Outcome). y.after) j);
+                day = ap (day_of n C) e ∙ sym (ap (λ (y : Outcome). y.after) j);
                 spared = rw (j, ec);
                 waited = rw (j, a.2);
               }

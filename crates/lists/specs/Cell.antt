@@ -1,6 +1,6 @@
 -- What a caller shows before a cell moves from one list to another.
 use Rattle.std.specs.Prelude.{ℕ, ◌^◌, ◌≤◌, ◌<◌, List, ◌≡◌}
-use Rattle.meaning.proofs.Steps.{cell_at, hookAt}
+use Rattle.meaning.proofs.Steps.{cell_at, hook_at}
 use Rattle.meaning.proofs.Threaded.{Threaded}
 use Rattle.find.specs.Find.{Spot-of}
 use Rattle.find.specs.declared.Spot.{Spot}
@@ -17,4 +17,4 @@ pub record Shifts (n C : ℕ) (w : List ℕ) (u : ℕ) (s : Spot) (v t : ℕ) : 
 pub record Front (s : Spot) (n C : ℕ) (w : List ℕ) (u : ℕ) : Type 0 where
   pub position : s.position ≡ 0
   pub cell : s.cell ≡ cell_at n C w u 0
-  pub hook : s.hook ≡ hookAt n C w u 0
+  pub hook : s.hook ≡ hook_at n C w u 0

@@ -1,11 +1,11 @@
 -- What turning's functions ask and show: between any two cells the table is threaded, its links are between places and apart,
 -- and the waiting table has the places whose lists are too long.
 use Rattle.std.specs.Prelude.{ℕ, zero, suc, ◌-◌, ◌≤◌, ◌<◌, List, [], ◌∷◌, ◌≡◌, length}
-use Rattle.terms.specs.Size.{limitMost}
+use Rattle.terms.specs.Size.{limit_most}
 use Rattle.meaning.specs.Cells.{Lists, bare, sum}
 use Rattle.meaning.specs.Table.{word, length_of}
 use Rattle.meaning.specs.Turning.{turn, settled, dense, turning}
-use Rattle.meaning.specs.Day.{dayOf}
+use Rattle.meaning.specs.Day.{day_of}
 use Rattle.meaning.proofs.Right.{outside, loop}
 use Rattle.meaning.proofs.Threaded.{Threaded}
 use Rattle.meaning.proofs.Waiting.{Waits}
@@ -19,12 +19,12 @@ stack_of ws (suc k) = word ws k ∷ stack_of ws k
 
 -- the lists that the store holds
 abbrev pub lists_of : ℕ → ℕ → List ℕ → Lists
-lists_of n C s = (dayOf n C s).lists
+lists_of n C s = (day_of n C s).lists
 
 -- what holds of the store between any two cells
 pub record Linked (n C D : ℕ) (s : List ℕ) : Type 0 where
   pub threaded : Threaded n C s
-  pub limit : D ≤ limitMost
+  pub limit : D ≤ limit_most
   pub inside : sum (outside n) (lists_of n C s) ≡ 0
   pub unlooped : sum loop (lists_of n C s) ≡ 0
 
@@ -37,8 +37,8 @@ pub record Walking (n C D w : ℕ) (s ws : List ℕ) (top : ℕ) : Type 0 where
 
 -- runs and free cells stay as they are
 pub record Beside (n C : ℕ) (s s' : List ℕ) : Type 0 where
-  pub runs : (dayOf n C s').runs ≡ (dayOf n C s).runs
-  pub free : (dayOf n C s').free ≡ (dayOf n C s).free
+  pub runs : (day_of n C s').runs ≡ (day_of n C s).runs
+  pub free : (day_of n C s').free ≡ (day_of n C s).free
 
 -- one cell has gone over: what is left of the turn comes to the same
 pub record Handed (n C D w : ℕ) (s ws : List ℕ) (top : ℕ) (s' ws' : List ℕ) (top' : ℕ) : Type 0 where

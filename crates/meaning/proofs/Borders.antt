@@ -6,15 +6,15 @@ use mathlib.Core.List.{List, [], ◌∷◌, ◌++◌, map}
 use mathlib.Core.Logic.{inr}
 use mathlib.Core.Path.{◌≡◌, refl}
 use native.Mathlib.Omega.{arith}
-use Rattle.terms.specs.Refusal.{refusalOf, value_of}
-use Rattle.terms.specs.Run.{badName, sameRun}
+use Rattle.terms.specs.Refusal.{refusal_of, value_of}
+use Rattle.terms.specs.Run.{bad_name, same_run}
 use Rattle.terms.specs.declared.run.Run.{Run}
 use Rattle.meaning.specs.Table.{NONE, word}
 use Rattle.meaning.specs.Cells.{list, same}
 use Rattle.meaning.specs.Soundness.{Single}
-use Rattle.meaning.specs.Turning.{handAll, turning}
-use Rattle.meaning.specs.Day.{Day, each, emptyDay}
-use Rattle.meaning.specs.Calls.{Call, openRun, link, Outcome, call}
+use Rattle.meaning.specs.Turning.{hand_all, turning}
+use Rattle.meaning.specs.Day.{Day, each, empty_day}
+use Rattle.meaning.specs.Calls.{Call, open_run, link, Outcome, call}
 
 -- a run for each place
 abbrev run : ℕ → Run
@@ -25,17 +25,17 @@ after D s [] = s
 after D s (q ∷ qs) = after D (call D s q).after qs
 
 -- the links of a place's list, the front one last, so that the list is as given; and of each place from v on
-abbrev linksOf : ℕ → List ℕ → List Call
-linksOf v [] = []
-linksOf v (t ∷ ts) = linksOf v ts ++ (link (run v) (run t) ∷ [])
+abbrev links_of : ℕ → List ℕ → List Call
+links_of v [] = []
+links_of v (t ∷ ts) = links_of v ts ++ (link (run v) (run t) ∷ [])
 
-abbrev linksFrom : ℕ → List (List ℕ) → List Call
-linksFrom v [] = []
-linksFrom v (l ∷ ls) = linksOf v l ++ linksFrom (suc v) ls
+abbrev links_from : ℕ → List (List ℕ) → List Call
+links_from v [] = []
+links_from v (l ∷ ls) = links_of v l ++ links_from (suc v) ls
 
 -- n open runs with these lists of targets, no list longer than D = 2, and a free cell
 abbrev laid : ℕ → List (List ℕ) → Day
-laid n ls = after 2 (emptyDay n 9) (each n (λ i. openRun (run i)) ++ linksFrom 0 ls)
+laid n ls = after 2 (empty_day n 9) (each n (λ i. open_run (run i)) ++ links_from 0 ls)
 
 abbrev ends : ℕ → Day → List (List ℕ)
 ends n s = each n (λ v. map (λ e. e.target) (list s.lists v))
@@ -44,7 +44,7 @@ ends n s = each n (λ v. map (λ e. e.target) (list s.lists v))
 abbrev joined : ℕ → List (List ℕ) → ℕ → ℕ → (ℕ × ℕ × List (List ℕ))
 joined n ls u v =
     let o : Outcome = call 2 (laid n ls) (link (run u) (run v)) in
-    (refusalOf o.answer, value_of o.answer, ends n o.after)
+    (refusal_of o.answer, value_of o.answer, ends n o.after)
 
 -- 1 waits, and then 2; 2 is taken first, and hands 1 a fourth cell while it waits: 3 + 3 + 4 reversals
 abbrev LastFirst : Type 0
@@ -71,5 +71,5 @@ abbrev NotTwice : Type 0
 NotTwice = Single 2 2 twice → ⊥
 
 pub borders : LastFirst × AsMany × NoMore × NotTwice
-unfolding turning handAll badName sameRun same word
+unfolding turning hand_all bad_name same_run same word
 borders = (refl, refl, refl, λ s. s.once 0 1 (omega arith) (omega arith) (omega arith) (omega arith) (inr (refl, refl)))

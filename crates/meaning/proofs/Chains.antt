@@ -31,69 +31,69 @@ after k [] = []
 after k (x ∷ l) = pick (same k x) l (after k l)
 
 -- other functions that agree on the chain's cells: the same chain
-pub chain-frame : (own nxt own' nxt' : ℕ → ℕ) (C v x : ℕ) (l : List ℕ) → ((k : ℕ) → 0 < times k l → (own k ≡ own' k) × (nxt k ≡ nxt' k))
+pub chain_frame : (own nxt own' nxt' : ℕ → ℕ) (C v x : ℕ) (l : List ℕ) → ((k : ℕ) → 0 < times k l → (own k ≡ own' k) × (nxt k ≡ nxt' k))
     → Chain own nxt C v x l → Chain own' nxt' C v x l
 unfolding Chain times
-chain-frame own nxt own' nxt' C v x [] h p = p
-chain-frame own nxt own' nxt' C v x (k ∷ l) h p =
+chain_frame own nxt own' nxt' C v x [] h p = p
+chain_frame own nxt own' nxt' C v x (k ∷ l) h p =
     let a = h k (omega (arith, same_self k)) in (
       p.0,
       p.1,
       sym a.0 ∙ p.2,
-      subst (λ (z : ℕ). Chain own' nxt' C v z l) a.1 (chain-frame own nxt own' nxt' C v (nxt k) l (λ j q. h j (omega arith)) p.3),
+      subst (λ (z : ℕ). Chain own' nxt' C v z l) a.1 (chain_frame own nxt own' nxt' C v (nxt k) l (λ j q. h j (omega arith)) p.3),
     )
 
 module _ (own nxt : ℕ → ℕ) (C : ℕ) (low : C ≤ NONE) where
   -- where a chain starts
-  pub chain-front : (v x : ℕ) (l : List ℕ) → Chain own nxt C v x l → x ≡ front l
+  pub chain_front : (v x : ℕ) (l : List ℕ) → Chain own nxt C v x l → x ≡ front l
   unfolding Chain
-  chain-front v x [] p = p
-  chain-front v x (k ∷ l) p = p.0
+  chain_front v x [] p = p
+  chain_front v x (k ∷ l) p = p.0
 
   -- its cells are owned by v, and below C
-  pub chain-owner : (v x : ℕ) (l : List ℕ) → Chain own nxt C v x l → (k : ℕ) → 0 < times k l → (own k ≡ v) × (k < C)
+  pub chain_owner : (v x : ℕ) (l : List ℕ) → Chain own nxt C v x l → (k : ℕ) → 0 < times k l → (own k ≡ v) × (k < C)
   unfolding Chain times
-  chain-owner v x [] p k q = absurd (omega arith)
-  chain-owner v x (y ∷ l) p k q = ⊎_elim (λ e. (ap own e.0 ∙ p.2, omega arith)) (λ e. chain-owner v (nxt y) l p.3 k (omega arith)) (same_cases k y)
+  chain_owner v x [] p k q = absurd (omega arith)
+  chain_owner v x (y ∷ l) p k q = ⊎_elim (λ e. (ap own e.0 ∙ p.2, omega arith)) (λ e. chain_owner v (nxt y) l p.3 k (omega arith)) (same_cases k y)
 
-  pub chain-below : (v x : ℕ) (l : List ℕ) → Chain own nxt C v x l → Below C l
+  pub chain_below : (v x : ℕ) (l : List ℕ) → Chain own nxt C v x l → Below C l
   unfolding Chain Below
-  chain-below v x [] p = tt
-  chain-below v x (k ∷ l) p = (p.1, chain-below v (nxt k) l p.3)
+  chain_below v x [] p = tt
+  chain_below v x (k ∷ l) p = (p.1, chain_below v (nxt k) l p.3)
 
   -- there is one chain from x
-  pub chain-unique : (v u x : ℕ) (l m : List ℕ) → Chain own nxt C v x l → Chain own nxt C u x m → l ≡ m
+  pub chain_unique : (v u x : ℕ) (l m : List ℕ) → Chain own nxt C v x l → Chain own nxt C u x m → l ≡ m
   unfolding Chain
-  chain-unique v u x [] [] p q = refl
-  chain-unique v u x [] (k ∷ m) p q = absurd (omega arith)
-  chain-unique v u x (k ∷ l) [] p q = absurd (omega arith)
-  chain-unique v u x (k ∷ l) (j ∷ m) p q =
+  chain_unique v u x [] [] p q = refl
+  chain_unique v u x [] (k ∷ m) p q = absurd (omega arith)
+  chain_unique v u x (k ∷ l) [] p q = absurd (omega arith)
+  chain_unique v u x (k ∷ l) (j ∷ m) p q =
       let e : k ≡ j = sym p.0 ∙ q.0 in
-      let r = chain-unique v u (nxt k) l m p.3 (subst (λ (z : ℕ). Chain own nxt C u (nxt z) m) (sym e) q.3) in
+      let r = chain_unique v u (nxt k) l m p.3 (subst (λ (z : ℕ). Chain own nxt C u (nxt z) m) (sym e) q.3) in
       cc
 
   -- a cell of a chain starts a chain that is no longer
-  chain-from : (v x : ℕ) (l : List ℕ) → Chain own nxt C v x l → (k : ℕ) → 0 < times k l → (m : List ℕ) × Chain own nxt C v k m × (length m ≤ length l)
+  chain_from : (v x : ℕ) (l : List ℕ) → Chain own nxt C v x l → (k : ℕ) → 0 < times k l → (m : List ℕ) × Chain own nxt C v k m × (length m ≤ length l)
   unfolding Chain times
-  chain-from v x [] p k q = absurd (omega arith)
-  chain-from v x (y ∷ l) p k q =
+  chain_from v x [] p k q = absurd (omega arith)
+  chain_from v x (y ∷ l) p k q =
       ⊎_elim
       (λ e. (y ∷ l, (e.0, p.1, p.2, p.3), omega arith))
-      (λ e. let r = chain-from v (nxt y) l p.3 k (omega arith) in (r.0, r.1, let z = r.2 in omega arith))
+      (λ e. let r = chain_from v (nxt y) l p.3 k (omega arith) in (r.0, r.1, let z = r.2 in omega arith))
       (same_cases k y)
 
   -- no cell stands twice in a chain
-  pub chain-once : (v x : ℕ) (l : List ℕ) → Chain own nxt C v x l → (k : ℕ) → times k l ≤ 1
+  pub chain_once : (v x : ℕ) (l : List ℕ) → Chain own nxt C v x l → (k : ℕ) → times k l ≤ 1
   unfolding Chain times
-  chain-once v x [] p k = omega arith
-  chain-once v x (y ∷ l) p k =
-      let i = chain-once v (nxt y) l p.3 k in
+  chain_once v x [] p k = omega arith
+  chain_once v x (y ∷ l) p k =
+      let i = chain_once v (nxt y) l p.3 k in
       ⊎_elim (λ e. go (times k l) refl e.0 e.1) (λ e. omega arith) (same_cases k y)
     where
       bad : k ≡ y → 0 < times k l → ⊥
       bad e q =
-          let r = chain-from v (nxt y) l p.3 k q in
-          let s = chain-unique v v k (y ∷ l) r.0 (e, p.1, p.2, p.3) r.1 in
+          let r = chain_from v (nxt y) l p.3 k q in
+          let s = chain_unique v v k (y ∷ l) r.0 (e, p.1, p.2, p.3) r.1 in
           let z : suc (length l) ≡ length r.0 = ap length s in
           let b = r.2 in
           omega arith
@@ -108,6 +108,6 @@ module _ (own nxt : ℕ → ℕ) (C : ℕ) (low : C ≤ NONE) where
   chain_next v x [] p k q = absurd (omega arith)
   chain_next v x (y ∷ l) p k q =
       ⊎_elim
-      (λ e. rw e.1 (ap nxt e.0 ∙ chain-front v (nxt y) l p.3))
+      (λ e. rw e.1 (ap nxt e.0 ∙ chain_front v (nxt y) l p.3))
       (λ e. rw e.1 (chain_next v (nxt y) l p.3 k (omega arith)))
       (same_cases k y)

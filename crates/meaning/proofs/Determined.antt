@@ -10,16 +10,16 @@ use native.Mathlib.Omega.{arith}
 use lib.ListN.{length, get_or}
 use Rattle.terms.specs.Run.{no_run}
 use Rattle.terms.specs.Size.{InRoom, store_words}
-use Rattle.meaning.specs.Table.{NONE, word, line_of, number_of, head_of, length_of, ownerOf, target_of, next_of}
+use Rattle.meaning.specs.Table.{NONE, word, line_of, number_of, head_of, length_of, owner_of, target_of, next_of}
 use Rattle.meaning.specs.Cells.{Cell}
 use Rattle.meaning.specs.Soundness.{Reaches, lengths, Along, Sound}
-use Rattle.meaning.specs.Day.{run_of, cells, cells_of, dayOf}
+use Rattle.meaning.specs.Day.{run_of, cells, cells_of, day_of}
 use Rattle.meaning.proofs.Same.{same_cases}
-use Rattle.meaning.proofs.Words.{words-equal}
+use Rattle.meaning.proofs.Words.{words_equal}
 use Rattle.meaning.proofs.Lists.{each_at}
 use Rattle.meaning.proofs.Times.{times}
-use Rattle.meaning.proofs.Chains.{chain-front, chain_next}
-use Rattle.meaning.proofs.Held.{steps, held, steps-length, cells-index, along-at, held-chain, held-owner, parted}
+use Rattle.meaning.proofs.Chains.{chain_front, chain_next}
+use Rattle.meaning.proofs.Held.{steps, held, steps_length, cells_index, along_at, held_chain, held_owner, parted}
 
 -- tables that agree at off + j for each j below m agree from off up to off + m
 shift : (w w' : List ℕ) (off m : ℕ) → ((j : ℕ) → j < m → word w (off + j) ≡ word w' (off + j)) → (i : ℕ) → off ≤ i → i < off + m → word w i ≡ word w' i
@@ -32,41 +32,41 @@ cell i t = record { index = i; target = t }
 
 module _ (n C : ℕ) (w w' : List ℕ) where
   -- lists of the same cells have the same targets in them
-  cells-target : (k k' i i' : ℕ) → cells n C w k i ≡ cells n C w' k' i' → (j : ℕ) → 0 < times j (steps n C w k i) → target_of n C w j ≡ target_of n C w' j
+  cells_target : (k k' i i' : ℕ) → cells n C w k i ≡ cells n C w' k' i' → (j : ℕ) → 0 < times j (steps n C w k i) → target_of n C w j ≡ target_of n C w' j
   unfolding cells steps times
-  cells-target zero k' i i' e j q = absurd (omega arith)
-  cells-target (suc k) zero i i' e j q = absurd (let z : ◌≡◌ {A = ℕ} 0 1 = cc in omega arith)
-  cells-target (suc k) (suc k') i i' e j q =
+  cells_target zero k' i i' e j q = absurd (omega arith)
+  cells_target (suc k) zero i i' e j q = absurd (let z : ◌≡◌ {A = ℕ} 0 1 = cc in omega arith)
+  cells_target (suc k) (suc k') i i' e j q =
       let c : cell i (target_of n C w i) ≡ cell i' (target_of n C w' i') = cc in
       let a : i ≡ i' = ap (λ c. c.index) c in
       let b : target_of n C w i ≡ target_of n C w' i' = ap (λ c. c.target) c in
       let d : cells n C w k (next_of n C w i) ≡ cells n C w' k' (next_of n C w' i') = cc in
       ⊎_elim
       (λ f. ap (target_of n C w) f.0 ∙ b ∙ ap (target_of n C w') (sym (f.0 ∙ a)))
-      (λ f. cells-target k k' (next_of n C w i) (next_of n C w' i') d j (omega arith))
+      (λ f. cells_target k k' (next_of n C w i) (next_of n C w' i') d j (omega arith))
       (same_cases j i)
 
   -- the words that a day gives by itself
-  module _ (e : dayOf n C w ≡ dayOf n C w') where
-    same-run : (v : ℕ) → v < n → (line_of n C w v ≡ line_of n C w' v) × (number_of n C w v ≡ number_of n C w' v)
-    same-run v p =
+  module _ (e : day_of n C w ≡ day_of n C w') where
+    same_run : (v : ℕ) → v < n → (line_of n C w v ≡ line_of n C w' v) × (number_of n C w v ≡ number_of n C w' v)
+    same_run v p =
         let a = each_at n (λ v. record { line = line_of n C w v; trip = number_of n C w v }) no_run v p in
         let b = each_at n (λ v. record { line = line_of n C w' v; trip = number_of n C w' v }) no_run v p in
         let d = ap (λ s. run_of s v) e in
         let f = sym a ∙ d ∙ b in
         (ap (λ r. r.line) f, ap (λ r. r.trip) f)
 
-    same-cells : (v : ℕ) → v < n → cells_of n C w v ≡ cells_of n C w' v
-    same-cells v p = sym (each_at n (cells_of n C w) [] v p) ∙ ap (λ s. get_or s.lists v []) e ∙ each_at n (cells_of n C w') [] v p
+    same_cells : (v : ℕ) → v < n → cells_of n C w v ≡ cells_of n C w' v
+    same_cells v p = sym (each_at n (cells_of n C w) [] v p) ∙ ap (λ s. get_or s.lists v []) e ∙ each_at n (cells_of n C w') [] v p
 
-    same-held : (v : ℕ) → v ≤ n → held n C w v ≡ held n C w' v
-    same-held v p =
-        sym (cells-index n C w (length_of n C w v) (head_of n C w v)) ∙ by_index v p ∙ cells-index n C w' (length_of n C w' v) (head_of n C w' v)
+    same_held : (v : ℕ) → v ≤ n → held n C w v ≡ held n C w' v
+    same_held v p =
+        sym (cells_index n C w (length_of n C w v) (head_of n C w v)) ∙ by_index v p ∙ cells_index n C w' (length_of n C w' v) (head_of n C w' v)
       where
         by_index : (v : ℕ) → v ≤ n → map (λ c. c.index) (cells_of n C w v) ≡ map (λ c. c.index) (cells_of n C w' v)
         by_index v p =
             elim (dec_lt v n) [
-              | yes q ↦ ap (map (λ c. c.index)) (same-cells v q)
+              | yes q ↦ ap (map (λ c. c.index)) (same_cells v q)
               | no q ↦ subst (λ (z : ℕ). map (λ c. c.index) (cells_of n C w z) ≡ map (λ c. c.index) (cells_of n C w' z)) (omega arith) (ap (λ s. s.free) e)
             ]
 
@@ -79,67 +79,67 @@ module _ (n C : ℕ) (w w' : List ℕ) (room : InRoom n C) (long : length w ≡ 
   low : C ≤ NONE
   low = omega arith
 
-  module _ (e : dayOf n C w ≡ dayOf n C w') where
-    same-heads : (v : ℕ) → v < n + 1 → head_of n C w v ≡ head_of n C w' v
-    same-heads v p =
-        chain-front (ownerOf n C w) (next_of n C w) C low v (head_of n C w v) (held n C w v) (held-chain n C w low reaches v (omega arith))
-        ∙ sym (chain-front (ownerOf n C w') (next_of n C w') C low v (head_of n C w' v) (held n C w v)
-        (rw (same-held n C w w' e v (omega arith)) (held-chain n C w' low reaches' v (omega arith))))
+  module _ (e : day_of n C w ≡ day_of n C w') where
+    same_heads : (v : ℕ) → v < n + 1 → head_of n C w v ≡ head_of n C w' v
+    same_heads v p =
+        chain_front (owner_of n C w) (next_of n C w) C low v (head_of n C w v) (held n C w v) (held_chain n C w low reaches v (omega arith))
+        ∙ sym (chain_front (owner_of n C w') (next_of n C w') C low v (head_of n C w' v) (held n C w v)
+        (rw (same_held n C w w' e v (omega arith)) (held_chain n C w' low reaches' v (omega arith))))
 
-    same-lengths : (v : ℕ) → v < n + 1 → length_of n C w v ≡ length_of n C w' v
-    same-lengths v p =
-        sym (steps-length n C w (length_of n C w v) (head_of n C w v)) ∙ ap length (same-held n C w w' e v (omega arith))
-        ∙ steps-length n C w' (length_of n C w' v) (head_of n C w' v)
+    same_lengths : (v : ℕ) → v < n + 1 → length_of n C w v ≡ length_of n C w' v
+    same_lengths v p =
+        sym (steps_length n C w (length_of n C w v) (head_of n C w v)) ∙ ap length (same_held n C w w' e v (omega arith))
+        ∙ steps_length n C w' (length_of n C w' v) (head_of n C w' v)
 
     -- a cell stands in both tables in the list of one place
-    shared : (i : ℕ) → i < C → (ownerOf n C w i ≤ n) × (0 < times i (held n C w (ownerOf n C w i))) × (0 < times i (held n C w' (ownerOf n C w i)))
+    shared : (i : ℕ) → i < C → (owner_of n C w i ≤ n) × (0 < times i (held n C w (owner_of n C w i))) × (0 < times i (held n C w' (owner_of n C w i)))
     shared i p =
         let r = parted n C w low reaches whole i p in
         let t = r.1 in
-        let f = ap (times i) (same-held n C w w' e (ownerOf n C w i) r.0) in
+        let f = ap (times i) (same_held n C w w' e (owner_of n C w i) r.0) in
         (r.0, omega arith, omega arith)
 
-    same-owners : (i : ℕ) → i < C → ownerOf n C w i ≡ ownerOf n C w' i
-    same-owners i p = let r = shared i p in sym (held-owner n C w' low reaches' (ownerOf n C w i) i r.0 r.2)
+    same_owners : (i : ℕ) → i < C → owner_of n C w i ≡ owner_of n C w' i
+    same_owners i p = let r = shared i p in sym (held_owner n C w' low reaches' (owner_of n C w i) i r.0 r.2)
 
-    same-nexts : (i : ℕ) → i < C → next_of n C w i ≡ next_of n C w' i
-    same-nexts i p =
+    same_nexts : (i : ℕ) → i < C → next_of n C w i ≡ next_of n C w' i
+    same_nexts i p =
         let r = shared i p in
-        let v = ownerOf n C w i in
-        chain_next (ownerOf n C w) (next_of n C w) C low v (head_of n C w v) (held n C w v) (held-chain n C w low reaches v r.0) i r.1
-        ∙ rw (same-held n C w w' e v r.0)
-        (sym (chain_next (ownerOf n C w') (next_of n C w') C low v (head_of n C w' v) (held n C w' v) (held-chain n C w' low reaches' v r.0) i r.2))
+        let v = owner_of n C w i in
+        chain_next (owner_of n C w) (next_of n C w) C low v (head_of n C w v) (held n C w v) (held_chain n C w low reaches v r.0) i r.1
+        ∙ rw (same_held n C w w' e v r.0)
+        (sym (chain_next (owner_of n C w') (next_of n C w') C low v (head_of n C w' v) (held n C w' v) (held_chain n C w' low reaches' v r.0) i r.2))
 
-    same-targets : (i : ℕ) → i < C → target_of n C w i ≡ target_of n C w' i
-    same-targets i p = go (ownerOf n C w i) (shared i p)
+    same_targets : (i : ℕ) → i < C → target_of n C w i ≡ target_of n C w' i
+    same_targets i p = go (owner_of n C w i) (shared i p)
       where
         go : (v : ℕ) → (v ≤ n) × (0 < times i (held n C w v)) × (0 < times i (held n C w' v)) → target_of n C w i ≡ target_of n C w' i
         go v r =
             elim (dec_lt v n) [
               | yes q ↦
-                  cells-target n C w w' (length_of n C w v) (length_of n C w' v) (head_of n C w v) (head_of n C w' v) (same-cells n C w w' e v q) i r.1
+                  cells_target n C w w' (length_of n C w v) (length_of n C w' v) (head_of n C w v) (head_of n C w' v) (same_cells n C w w' e v q) i r.1
               | no q ↦
                   let z : v ≡ n = omega (arith, r.0) in
-                  along-at n C w (λ i. target_of n C w i ≡ NONE) (length_of n C w n) (head_of n C w n) freed i
+                  along_at n C w (λ i. target_of n C w i ≡ NONE) (length_of n C w n) (head_of n C w n) freed i
                   (subst (λ (z : ℕ). 0 < times i (held n C w z)) z r.1)
-                  ∙ sym (along-at n C w' (λ i. target_of n C w' i ≡ NONE) (length_of n C w' n) (head_of n C w' n) freed' i
+                  ∙ sym (along_at n C w' (λ i. target_of n C w' i ≡ NONE) (length_of n C w' n) (head_of n C w' n) freed' i
                   (subst (λ (z : ℕ). 0 < times i (held n C w' z)) z r.2))
             ]
 
     pub determined : w ≡ w'
-    determined = words-equal w w' (long ∙ sym long') at
+    determined = words_equal w w' (long ∙ sym long') at
       where
         at : (i : ℕ) → i < length w → word w i ≡ word w' i
         at i p =
-            by_cases (dec_lt i n) (λ q. (same-run n C w w' e i q).0) (λ q1.
-            by_cases (dec_lt i (2 * n)) (λ q. shift w w' n n (λ j h. (same-run n C w w' e j h).1) i (omega arith) (omega arith)) (λ q2.
-            by_cases (dec_lt i (3 * n + 1)) (λ q. shift w w' (2 * n) (n + 1) same-heads i (omega arith) (omega arith)) (λ q3.
-            by_cases (dec_lt i (4 * n + 2)) (λ q. shift w w' (3 * n + 1) (n + 1) same-lengths i (omega arith) (omega arith)) (λ q4.
-            by_cases (dec_lt i (4 * n + 2 + C)) (λ q. shift w w' (4 * n + 2) C same-owners i (omega arith) (omega arith)) (λ q5.
-            by_cases (dec_lt i (4 * n + 2 + 2 * C)) (λ q. shift w w' (4 * n + 2 + C) C same-targets i (omega arith) (omega arith)) (λ q6.
-            shift w w' (4 * n + 2 + 2 * C) C same-nexts i (omega arith) (omega arith)))))))
+            by_cases (dec_lt i n) (λ q. (same_run n C w w' e i q).0) (λ q1.
+            by_cases (dec_lt i (2 * n)) (λ q. shift w w' n n (λ j h. (same_run n C w w' e j h).1) i (omega arith) (omega arith)) (λ q2.
+            by_cases (dec_lt i (3 * n + 1)) (λ q. shift w w' (2 * n) (n + 1) same_heads i (omega arith) (omega arith)) (λ q3.
+            by_cases (dec_lt i (4 * n + 2)) (λ q. shift w w' (3 * n + 1) (n + 1) same_lengths i (omega arith) (omega arith)) (λ q4.
+            by_cases (dec_lt i (4 * n + 2 + C)) (λ q. shift w w' (4 * n + 2) C same_owners i (omega arith) (omega arith)) (λ q5.
+            by_cases (dec_lt i (4 * n + 2 + 2 * C)) (λ q. shift w w' (4 * n + 2 + C) C same_targets i (omega arith) (omega arith)) (λ q6.
+            shift w w' (4 * n + 2 + 2 * C) C same_nexts i (omega arith) (omega arith)))))))
 
-pub sound-determined : (n C D D' : ℕ) (w w' : List ℕ) → Sound n C D w → Sound n C D' w' → dayOf n C w ≡ dayOf n C w' → w ≡ w'
-sound-determined n C D D' w w' s s' e =
+pub sound_determined : (n C D D' : ℕ) (w w' : List ℕ) → Sound n C D w → Sound n C D' w' → day_of n C w ≡ day_of n C w' → w ≡ w'
+sound_determined n C D D' w w' s s' e =
     determined n C w w' s.sized.room s.sized.long s'.sized.long s.chained.reaches s'.chained.reaches s.chained.whole
     s.aimed.freed s'.aimed.freed e

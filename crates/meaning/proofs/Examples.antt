@@ -3,13 +3,13 @@ use Prim.Native.Nat.{ℕ}
 use mathlib.Core.List.{List, [], ◌∷◌, ◌++◌, map}
 use mathlib.Core.Option.{Option, none, some}
 use mathlib.Core.Path.{◌≡◌, refl}
-use Rattle.terms.specs.Refusal.{refusalOf, value_of}
-use Rattle.terms.specs.Run.{badName, sameRun}
+use Rattle.terms.specs.Refusal.{refusal_of, value_of}
+use Rattle.terms.specs.Run.{bad_name, same_run}
 use Rattle.terms.specs.declared.run.Run.{Run}
 use Rattle.meaning.specs.Cells.{Cell, Lists, list, push, same}
-use Rattle.meaning.specs.Turning.{handAll, settled, dense, turning}
-use Rattle.meaning.specs.Day.{Day, emptyDay}
-use Rattle.meaning.specs.Calls.{Call, openRun, closeRun, link, unlink, ask, reading, Outcome, call}
+use Rattle.meaning.specs.Turning.{hand_all, settled, dense, turning}
+use Rattle.meaning.specs.Day.{Day, empty_day}
+use Rattle.meaning.specs.Calls.{Call, open_run, close_run, link, unlink, ask, reading, Outcome, call}
 
 -- the runs of the examples: a, b, c, d, x, y on line 1, and a second line
 abbrev a : Run
@@ -43,15 +43,15 @@ after D s (q ∷ qs) = after D (call D s q).after qs
 
 abbrev answers : ℕ → Day → List Call → List (ℕ × ℕ)
 answers D s [] = []
-answers D s (q ∷ qs) = let o : Outcome = call D s q in (refusalOf o.answer, value_of o.answer) ∷ answers D o.after qs
+answers D s (q ∷ qs) = let o : Outcome = call D s q in (refusal_of o.answer, value_of o.answer) ∷ answers D o.after qs
 
 -- the last call's
 abbrev last : ℕ → Day → List Call → Call → (ℕ × ℕ)
-last D s qs q = let o : Outcome = call D (after D s qs) q in (refusalOf o.answer, value_of o.answer)
+last D s qs q = let o : Outcome = call D (after D s qs) q in (refusal_of o.answer, value_of o.answer)
 
 -- six places with a to y open, and cells for C links
 abbrev six : ℕ → Day
-six C = after 2 (emptyDay 6 C) (openRun a ∷ openRun b ∷ openRun c ∷ openRun d ∷ openRun x ∷ openRun y ∷ [])
+six C = after 2 (empty_day 6 C) (open_run a ∷ open_run b ∷ open_run c ∷ open_run d ∷ open_run x ∷ open_run y ∷ [])
 
 -- the places in a list, front to back: who is at the other end
 abbrev ends : Day → ℕ → List ℕ
@@ -78,7 +78,7 @@ abbrev within : ℕ → Lists → ℕ → Option ℕ
 within m ls v = elim (turning 2 m ls (v ∷ []) 0) [ settled ls' r ↦ some r | dense ↦ none ]
 
 abbrev lines : Day
-lines = after 2 (emptyDay 3 3) (openRun a ∷ openRun other ∷ openRun c ∷ link a c ∷ [])
+lines = after 2 (empty_day 3 3) (open_run a ∷ open_run other ∷ open_run c ∷ link a c ∷ [])
 
 -- link a-b, a-c: a's list is c, b
 abbrev P1 : Type 0
@@ -113,11 +113,11 @@ P6 = (answers 2 (six 1) (link a b ∷ link c d ∷ link b a ∷ unlink a b ∷ l
 
 -- n = 1: opening the open run again 6, opening another 8
 abbrev P7 : Type 0
-P7 = answers 2 (emptyDay 1 1) (openRun a ∷ openRun a ∷ openRun b ∷ []) ≡ (0, 0) ∷ (6, 0) ∷ (8, 0) ∷ []
+P7 = answers 2 (empty_day 1 1) (open_run a ∷ open_run a ∷ open_run b ∷ []) ≡ (0, 0) ∷ (6, 0) ∷ (8, 0) ∷ []
 
 -- line 1 trip 100 and line 2 trip 100 are two places; a link to one isn't shown at the other
 abbrev P8 : Type 0
-P8 = (answers 2 (emptyDay 3 3) (openRun a ∷ openRun other ∷ []) ≡ (0, 0) ∷ (0, 1) ∷ [])
+P8 = (answers 2 (empty_day 3 3) (open_run a ∷ open_run other ∷ []) ≡ (0, 0) ∷ (0, 1) ∷ [])
     × (answers 2 lines (ask a c ∷ ask other c ∷ []) ≡ (0, 1) ∷ (0, 0) ∷ [])
 
 -- a triangle's reading is 1
@@ -126,8 +126,8 @@ P9 = last 2 (six 8) (link a b ∷ link b c ∷ link c a ∷ []) (reading (0 ∷ 
 
 -- after p2, closing a: 10
 abbrev P10 : Type 0
-P10 = last 2 (six 8) star (closeRun a) ≡ (10, 0)
+P10 = last 2 (six 8) star (close_run a) ≡ (10, 0)
 
 pub examples : P1 × P2 × P3 × P4 × P5 × P6 × P7 × P8 × P9 × P10
-unfolding turning handAll badName sameRun same
+unfolding turning hand_all bad_name same_run same
 examples = (refl, (refl, refl), (refl, refl, refl, refl, refl), (refl, refl, refl, refl), refl, (refl, refl), refl, (refl, refl), refl, refl)

@@ -6,14 +6,14 @@ use mathlib.Core.Logic.{◌⊎◌}
 use mathlib.Core.Path.{◌≡◌, refl, ap}
 use native.Mathlib.Omega.{arith}
 use native.Mathlib.Numerals.{add-one}
-use Rattle.terms.specs.Run.{lineMost}
-use Rattle.meaning.specs.Table.{NONE, line_of, number_of, head_of, length_of, ownerOf, target_of, next_of}
+use Rattle.terms.specs.Run.{line_most}
+use Rattle.meaning.specs.Table.{NONE, line_of, number_of, head_of, length_of, owner_of, target_of, next_of}
 use Rattle.meaning.specs.Soundness.{Aims, lengths}
 
 module _ (n C : ℕ) (w : List ℕ) where
   -- rule 1 for one place, without the names
   pub record Line (v : ℕ) : Type 0 where
-    pub small : line_of n C w v ≤ lineMost
+    pub small : line_of n C w v ≤ line_most
     pub freed : line_of n C w v ≡ 0 → number_of n C w v ≡ 0
 
   -- place u has not the name of v, if v is open
@@ -31,7 +31,7 @@ module _ (n C : ℕ) (w : List ℕ) where
   -- rules 2 and 3 for cell i in the list of v
   pub record CellOk (v i : ℕ) : Type 0 where
     pub within : i < C
-    pub owned : ownerOf n C w i ≡ v
+    pub owned : owner_of n C w i ≡ v
     pub aims : Aim v i
 
   -- from cell i, following next, NONE is reached after exactly k cells, each right for the list of v
@@ -74,54 +74,54 @@ module _ (n C : ℕ) (w : List ℕ) where
   unfolding lengths
   lengths_none = refl
 
-  pub lengths-more : (k : ℕ) → lengths n C w (k + 1) ≡ lengths n C w k + length_of n C w k
+  pub lengths_more : (k : ℕ) → lengths n C w (k + 1) ≡ lengths n C w k + length_of n C w k
   unfolding lengths
-  lengths-more k = rw (add-one k)
+  lengths_more k = rw (add-one k)
 
-pred-suc : (k : ℕ) → suc k - 1 ≡ k
-pred-suc k = omega arith
+pred_suc : (k : ℕ) → suc k - 1 ≡ k
+pred_suc k = omega arith
 
 module _ (n C : ℕ) (w : List ℕ) (v : ℕ) where
-  pub walks-out : (k i : ℕ) → 0 < k → Walks n C w v k i → CellOk n C w v i × Walks n C w v (k - 1) (next_of n C w i)
+  pub walks_out : (k i : ℕ) → 0 < k → Walks n C w v k i → CellOk n C w v i × Walks n C w v (k - 1) (next_of n C w i)
   unfolding Walks
-  walks-out zero i h p = absurd (omega arith)
-  walks-out (suc k) i h p = rw (pred-suc k) p
+  walks_out zero i h p = absurd (omega arith)
+  walks_out (suc k) i h p = rw (pred_suc k) p
 
-  pub walks-in : (k i : ℕ) → 0 < k → CellOk n C w v i → Walks n C w v (k - 1) (next_of n C w i) → Walks n C w v k i
+  pub walks_in : (k i : ℕ) → 0 < k → CellOk n C w v i → Walks n C w v (k - 1) (next_of n C w i) → Walks n C w v k i
   unfolding Walks
-  walks-in zero i h p q = absurd (omega arith)
-  walks-in (suc k) i h p q = (p, rw (pred-suc k) at q)
+  walks_in zero i h p q = absurd (omega arith)
+  walks_in (suc k) i h p q = (p, rw (pred_suc k) at q)
 
-  pub walks-end : (k i : ℕ) → k ≤ 0 → (Walks n C w v k i → i ≡ NONE) × (i ≡ NONE → Walks n C w v k i)
+  pub walks_end : (k i : ℕ) → k ≤ 0 → (Walks n C w v k i → i ≡ NONE) × (i ≡ NONE → Walks n C w v k i)
   unfolding Walks
-  walks-end zero i h = (λ p. p, λ p. p)
-  walks-end (suc k) i h = absurd (omega arith)
+  walks_end zero i h = (λ p. p, λ p. p)
+  walks_end (suc k) i h = absurd (omega arith)
 
-  pub alone-out : (k i : ℕ) → 0 < k → Alone n C w v k i → Lone n C w v (k - 1) i × Alone n C w v (k - 1) (next_of n C w i)
+  pub alone_out : (k i : ℕ) → 0 < k → Alone n C w v k i → Lone n C w v (k - 1) i × Alone n C w v (k - 1) (next_of n C w i)
   unfolding Alone
-  alone-out zero i h p = absurd (omega arith)
-  alone-out (suc k) i h p = rw (pred-suc k) p
+  alone_out zero i h p = absurd (omega arith)
+  alone_out (suc k) i h p = rw (pred_suc k) p
 
-  pub alone-in : (k i : ℕ) → 0 < k → Lone n C w v (k - 1) i → Alone n C w v (k - 1) (next_of n C w i) → Alone n C w v k i
+  pub alone_in : (k i : ℕ) → 0 < k → Lone n C w v (k - 1) i → Alone n C w v (k - 1) (next_of n C w i) → Alone n C w v k i
   unfolding Alone
-  alone-in zero i h p q = absurd (omega arith)
-  alone-in (suc k) i h p q = (rw (pred-suc k) at p, rw (pred-suc k) at q)
+  alone_in zero i h p q = absurd (omega arith)
+  alone_in (suc k) i h p q = (rw (pred_suc k) at p, rw (pred_suc k) at q)
 
-  pub alone-end : (k i : ℕ) → k ≤ 0 → Alone n C w v k i
+  pub alone_end : (k i : ℕ) → k ≤ 0 → Alone n C w v k i
   unfolding Alone
-  alone-end zero i h = tt
-  alone-end (suc k) i h = absurd (omega arith)
+  alone_end zero i h = tt
+  alone_end (suc k) i h = absurd (omega arith)
 
 module _ (n C : ℕ) (w : List ℕ) (t : ℕ) where
-  pub has-out : (k i : ℕ) → 0 < k → Has n C w t k i → (i < C) × ((target_of n C w i ≡ t) ⊎ Has n C w t (k - 1) (next_of n C w i))
+  pub has_out : (k i : ℕ) → 0 < k → Has n C w t k i → (i < C) × ((target_of n C w i ≡ t) ⊎ Has n C w t (k - 1) (next_of n C w i))
   unfolding Has
-  has-out zero i h p = absurd (omega arith)
-  has-out (suc k) i h p = rw (pred-suc k) p
+  has_out zero i h p = absurd (omega arith)
+  has_out (suc k) i h p = rw (pred_suc k) p
 
   pub has_in : (k i : ℕ) → 0 < k → (i < C) × ((target_of n C w i ≡ t) ⊎ Has n C w t (k - 1) (next_of n C w i)) → Has n C w t k i
   unfolding Has
   has_in zero i h p = absurd (omega arith)
-  has_in (suc k) i h p = rw (pred-suc k) at p
+  has_in (suc k) i h p = rw (pred_suc k) at p
 
   pub has_end : (k i : ℕ) → k ≤ 0 → Has n C w t k i → ⊥
   unfolding Has
@@ -129,5 +129,5 @@ module _ (n C : ℕ) (w : List ℕ) (t : ℕ) where
   has_end (suc k) i h p = absurd (omega arith)
 
 -- the judge adds the lengths of the places, and the free list's last
-pub lengths-end : (n C : ℕ) (w : List ℕ) (v s f : ℕ) → s ≡ lengths n C w v → v ≡ n → f ≡ length_of n C w n → lengths n C w (n + 1) ≡ s + f
-lengths-end n C w v s f a b e = rw (lengths-more n C w n) (cc (ap (lengths n C w) b))
+pub lengths_end : (n C : ℕ) (w : List ℕ) (v s f : ℕ) → s ≡ lengths n C w v → v ≡ n → f ≡ length_of n C w n → lengths n C w (n + 1) ≡ s + f
+lengths_end n C w v s f a b e = rw (lengths_more n C w n) (cc (ap (lengths n C w) b))

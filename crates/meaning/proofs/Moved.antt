@@ -12,21 +12,21 @@ use Rattle.meaning.specs.Cells.{Cell, without}
 use Rattle.meaning.specs.Soundness.{Reaches, Along}
 use Rattle.meaning.specs.Day.{each, cells, cells_of}
 use Rattle.meaning.proofs.Lists.{each_same}
-use Rattle.meaning.proofs.Entries.{skip, without-each}
+use Rattle.meaning.proofs.Entries.{skip, without_each}
 use Rattle.meaning.proofs.Steps.{cell_at, moved, SameRun}
-use Rattle.meaning.proofs.Walks.{standing, walk-reaches, walk-along, walk-cells}
-use Rattle.meaning.proofs.Threaded.{Threaded, cell-walk, cell-inside, free-target}
-use Rattle.meaning.proofs.Moving.{moved-table, moved-run, moved-list, moved-lengths, moved-from-count, moved-to-count, moved-target, kept_target, stays-below, stays, moved-from-walk, fronted, to_cell, moved-to-walk, other-cell, moved-other-walk}
+use Rattle.meaning.proofs.Walks.{standing, walk_reaches, walk_along, walk_cells}
+use Rattle.meaning.proofs.Threaded.{Threaded, cell_walk, cell_inside, free_target}
+use Rattle.meaning.proofs.Moving.{moved_table, moved_run, moved_list, moved_lengths, moved_from_count, moved_to_count, moved_target, kept_target, stays_below, stays, moved_from_walk, fronted, to_cell, moved_to_walk, other_cell, moved_other_walk}
 
 pub record Moves (n C : ℕ) (w : List ℕ) (u k v t : ℕ) (w' : List ℕ) : Type 0 where
   pub threaded : Threaded n C w'
   pub run : (z : ℕ) → z < n → SameRun n C w w' z
-  pub from-count : length_of n C w' u ≡ length_of n C w u - 1
-  pub from-cells : cells_of n C w' u ≡ without k (cells_of n C w u)
-  pub to-count : length_of n C w' v ≡ length_of n C w v + 1
-  pub to-cells : cells_of n C w' v ≡ record { index = cell_at n C w u k; target = t } ∷ cells_of n C w v
-  pub other-count : (z : ℕ) → z ≤ n → (z ≡ u → ⊥) → (z ≡ v → ⊥) → length_of n C w' z ≡ length_of n C w z
-  pub other-cells : (z : ℕ) → z ≤ n → (z ≡ u → ⊥) → (z ≡ v → ⊥) → cells_of n C w' z ≡ cells_of n C w z
+  pub from_count : length_of n C w' u ≡ length_of n C w u - 1
+  pub from_cells : cells_of n C w' u ≡ without k (cells_of n C w u)
+  pub to_count : length_of n C w' v ≡ length_of n C w v + 1
+  pub to_cells : cells_of n C w' v ≡ record { index = cell_at n C w u k; target = t } ∷ cells_of n C w v
+  pub other_count : (z : ℕ) → z ≤ n → (z ≡ u → ⊥) → (z ≡ v → ⊥) → length_of n C w' z ≡ length_of n C w z
+  pub other_cells : (z : ℕ) → z ≤ n → (z ≡ u → ⊥) → (z ≡ v → ⊥) → cells_of n C w' z ≡ cells_of n C w z
 
 module _ (n C : ℕ) (w : List ℕ) (u k v t : ℕ) (T : Threaded n C w) (hu : u ≤ n) (hv : v ≤ n) (d : u ≡ v → ⊥) (hk : k < length_of n C w u) where
   abbrev after : List ℕ
@@ -47,51 +47,51 @@ module _ (n C : ℕ) (w : List ℕ) (u k v t : ℕ) (T : Threaded n C w) (hu : u
   aim j e = ap (λ x. record { index = j; target = x }) e
 
   listing : (z : ℕ) → z ≤ n → cells_of n C w z ≡ each (length_of n C w z) (before z)
-  listing z hz = walk-cells n C w z (length_of n C w z) (head_of n C w z) (λ a. cell_at n C w z a) (cell-walk n C w T z hz)
+  listing z hz = walk_cells n C w z (length_of n C w z) (head_of n C w z) (λ a. cell_at n C w z a) (cell_walk n C w T z hz)
 
-  from-same : (a : ℕ) → a < length_of n C w u - 1 → target_of n C after (cell_at n C w u (skip k a)) ≡ target_of n C w (cell_at n C w u (skip k a))
-  from-same a h =
+  from_same : (a : ℕ) → a < length_of n C w u - 1 → target_of n C after (cell_at n C w u (skip k a)) ≡ target_of n C w (cell_at n C w u (skip k a))
+  from_same a h =
       kept_target n C w u k v t T hu hv d hk (cell_at n C w u (skip k a))
-      (cell-inside n C w T u hu (skip k a) (stays-below n C w u k v t T hu hv d hk a (omega arith))) (stays n C w u k v t T hu hv d hk a (omega arith))
+      (cell_inside n C w T u hu (skip k a) (stays_below n C w u k v t T hu hv d hk a (omega arith))) (stays n C w u k v t T hu hv d hk a (omega arith))
 
   from_list : cells_of n C after u ≡ without k (cells_of n C w u)
   from_list =
       let m : ℕ = length_of n C w u - 1 in
       let e : length_of n C w u ≡ suc m = omega arith in
       let b : cells n C after m (head_of n C after u) ≡ each m (λ a. later (cell_at n C w u (skip k a))) =
-      walk-cells n C after u m (head_of n C after u) (λ a. cell_at n C w u (skip k a)) (moved-from-walk n C w u k v t T hu hv d hk) in
-      let c : each m (λ a. later (cell_at n C w u (skip k a))) ≡ each m staying = each_same m _ staying (λ a h. aim (cell_at n C w u (skip k a)) (from-same a h)) in
-      let f : without k (each (suc m) (before u)) ≡ each m staying = without-each k m (before u) (omega arith) in
+      walk_cells n C after u m (head_of n C after u) (λ a. cell_at n C w u (skip k a)) (moved_from_walk n C w u k v t T hu hv d hk) in
+      let c : each m (λ a. later (cell_at n C w u (skip k a))) ≡ each m staying = each_same m _ staying (λ a h. aim (cell_at n C w u (skip k a)) (from_same a h)) in
+      let f : without k (each (suc m) (before u)) ≡ each m staying = without_each k m (before u) (omega arith) in
       let g : cells_of n C w u ≡ each (suc m) (before u) = listing u hu ∙ ap (λ x. each x (before u)) e in
-      rw (moved-from-count n C w u k v t T hu hv d hk, g) (b ∙ (c ∙ sym f))
+      rw (moved_from_count n C w u k v t T hu hv d hk, g) (b ∙ (c ∙ sym f))
 
-  to-list : cells_of n C after v ≡ record { index = cell_at n C w u k; target = t } ∷ cells_of n C w v
+  to_list : cells_of n C after v ≡ record { index = cell_at n C w u k; target = t } ∷ cells_of n C w v
   unfolding fronted
-  to-list =
+  to_list =
       let m : ℕ = length_of n C w v in
       let b : cells n C after (suc m) (head_of n C after v) ≡ later (cell_at n C w u k) ∷ each m (λ a. later (cell_at n C w v a)) =
-      walk-cells n C after v (suc m) (head_of n C after v) (fronted n C w (cell_at n C w u k) v) (moved-to-walk n C w u k v t T hu hv d hk) in
+      walk_cells n C after v (suc m) (head_of n C after v) (fronted n C w (cell_at n C w u k) v) (moved_to_walk n C w u k v t T hu hv d hk) in
       let c : each m (λ a. later (cell_at n C w v a)) ≡ each m (before v) =
       each_same m _ (before v) (λ a h. aim (cell_at n C w v a) (to_cell n C w u k v t T hu hv d hk a h).target) in
       let e : later (cell_at n C w u k) ≡ record { index = cell_at n C w u k; target = t } =
-      ap (λ x. record { index = cell_at n C w u k; target = x }) (moved-target n C w u k v t T hu hv d hk) in
-      rw (moved-to-count n C w u k v t T hu hv d hk, add-one m) (b ∙ cc (c, e, listing v hv))
+      ap (λ x. record { index = cell_at n C w u k; target = x }) (moved_target n C w u k v t T hu hv d hk) in
+      rw (moved_to_count n C w u k v t T hu hv d hk, add-one m) (b ∙ cc (c, e, listing v hv))
 
-  other-list : (z : ℕ) → z ≤ n → (z ≡ u → ⊥) → (z ≡ v → ⊥) → cells_of n C after z ≡ cells_of n C w z
-  other-list z hz a b =
+  other_list : (z : ℕ) → z ≤ n → (z ≡ u → ⊥) → (z ≡ v → ⊥) → cells_of n C after z ≡ cells_of n C w z
+  other_list z hz a b =
       let m : ℕ = length_of n C w z in
       let c : each m (λ x. later (cell_at n C w z x)) ≡ each m (before z) =
-      each_same m _ (before z) (λ x h. aim (cell_at n C w z x) (other-cell n C w u k v t T hu hv d hk z hz a b x h).target) in
+      each_same m _ (before z) (λ x h. aim (cell_at n C w z x) (other_cell n C w u k v t T hu hv d hk z hz a b x h).target) in
       let e : cells n C after m (head_of n C after z) ≡ each m (λ x. later (cell_at n C w z x)) =
-      walk-cells n C after z m (head_of n C after z) (λ x. cell_at n C w z x) (moved-other-walk n C w u k v t T hu hv d hk z hz a b) in
-      rw (moved-list n C w u k v t T hu hv d hk z hz a b).count (e ∙ (c ∙ sym (listing z hz)))
+      walk_cells n C after z m (head_of n C after z) (λ x. cell_at n C w z x) (moved_other_walk n C w u k v t T hu hv d hk z hz a b) in
+      rw (moved_list n C w u k v t T hu hv d hk z hz a b).count (e ∙ (c ∙ sym (listing z hz)))
 
-  all-reach : (z : ℕ) → z ≤ n → Reaches n C after z (length_of n C after z) (head_of n C after z)
-  all-reach z hz = elim (ℕ_discrete z u) [
-    | yes a ↦ rw (a, moved-from-count n C w u k v t T hu hv d hk) (walk-reaches n C after u _ _ _ (moved-from-walk n C w u k v t T hu hv d hk))
+  all_reach : (z : ℕ) → z ≤ n → Reaches n C after z (length_of n C after z) (head_of n C after z)
+  all_reach z hz = elim (ℕ_discrete z u) [
+    | yes a ↦ rw (a, moved_from_count n C w u k v t T hu hv d hk) (walk_reaches n C after u _ _ _ (moved_from_walk n C w u k v t T hu hv d hk))
     | no a ↦ elim (ℕ_discrete z v) [
-      | yes b ↦ rw (b, moved-to-count n C w u k v t T hu hv d hk, add-one (length_of n C w v)) (walk-reaches n C after v _ _ _ (moved-to-walk n C w u k v t T hu hv d hk))
-      | no b ↦ rw (moved-list n C w u k v t T hu hv d hk z hz a b).count (walk-reaches n C after z _ _ _ (moved-other-walk n C w u k v t T hu hv d hk z hz a b))
+      | yes b ↦ rw (b, moved_to_count n C w u k v t T hu hv d hk, add-one (length_of n C w v)) (walk_reaches n C after v _ _ _ (moved_to_walk n C w u k v t T hu hv d hk))
+      | no b ↦ rw (moved_list n C w u k v t T hu hv d hk z hz a b).count (walk_reaches n C after z _ _ _ (moved_other_walk n C w u k v t T hu hv d hk z hz a b))
     ]
   ]
 
@@ -102,34 +102,34 @@ module _ (n C : ℕ) (w : List ℕ) (u k v t : ℕ) (T : Threaded n C w) (hu : u
   abbrev Unaimed₀ : ℕ → Type 0
   Unaimed₀ z = (a : ℕ) → a < length_of n C w z → target_of n C w (cell_at n C w z a) ≡ NONE
 
-  from-freed : Unaimed₀ u → Unaimed u
-  from-freed f =
-      rw (moved-from-count n C w u k v t T hu hv d hk)
-      (walk-along n C after _ u _ _ _ (moved-from-walk n C w u k v t T hu hv d hk)
-      (λ a h. from-same a h ∙ f (skip k a) (stays-below n C w u k v t T hu hv d hk a (omega arith))))
+  from_freed : Unaimed₀ u → Unaimed u
+  from_freed f =
+      rw (moved_from_count n C w u k v t T hu hv d hk)
+      (walk_along n C after _ u _ _ _ (moved_from_walk n C w u k v t T hu hv d hk)
+      (λ a h. from_same a h ∙ f (skip k a) (stays_below n C w u k v t T hu hv d hk a (omega arith))))
 
-  to-freed : t ≡ NONE → Unaimed₀ v → Unaimed v
+  to_freed : t ≡ NONE → Unaimed₀ v → Unaimed v
   unfolding fronted
-  to-freed e f =
-      rw (moved-to-count n C w u k v t T hu hv d hk, add-one (length_of n C w v))
-      (walk-along n C after _ v _ _ _ (moved-to-walk n C w u k v t T hu hv d hk)
+  to_freed e f =
+      rw (moved_to_count n C w u k v t T hu hv d hk, add-one (length_of n C w v))
+      (walk_along n C after _ v _ _ _ (moved_to_walk n C w u k v t T hu hv d hk)
       (λ a. elim a [
-        | zero ↦ λ h. moved-target n C w u k v t T hu hv d hk ∙ e
+        | zero ↦ λ h. moved_target n C w u k v t T hu hv d hk ∙ e
         | suc b ↦ λ h. (to_cell n C w u k v t T hu hv d hk b (omega arith)).target ∙ f b (omega arith)
       ]))
 
-  other-freed : (z : ℕ) → z ≤ n → (z ≡ u → ⊥) → (z ≡ v → ⊥) → Unaimed₀ z → Unaimed z
-  other-freed z hz a b f =
-      rw (moved-list n C w u k v t T hu hv d hk z hz a b).count
-      (walk-along n C after _ z _ _ _ (moved-other-walk n C w u k v t T hu hv d hk z hz a b)
-      (λ x h. (other-cell n C w u k v t T hu hv d hk z hz a b x h).target ∙ f x h))
+  other_freed : (z : ℕ) → z ≤ n → (z ≡ u → ⊥) → (z ≡ v → ⊥) → Unaimed₀ z → Unaimed z
+  other_freed z hz a b f =
+      rw (moved_list n C w u k v t T hu hv d hk z hz a b).count
+      (walk_along n C after _ z _ _ _ (moved_other_walk n C w u k v t T hu hv d hk z hz a b)
+      (λ x h. (other_cell n C w u k v t T hu hv d hk z hz a b x h).target ∙ f x h))
 
-  after-freed : (v ≡ n → t ≡ NONE) → Unaimed n
-  after-freed ht = elim (ℕ_discrete n u) [
-    | yes a ↦ subst (λ z. Unaimed z) (sym a) (from-freed (subst (λ z. Unaimed₀ z) a (free-target n C w T)))
+  after_freed : (v ≡ n → t ≡ NONE) → Unaimed n
+  after_freed ht = elim (ℕ_discrete n u) [
+    | yes a ↦ subst (λ z. Unaimed z) (sym a) (from_freed (subst (λ z. Unaimed₀ z) a (free_target n C w T)))
     | no a ↦ elim (ℕ_discrete n v) [
-      | yes b ↦ subst (λ z. Unaimed z) (sym b) (to-freed (ht (sym b)) (subst (λ z. Unaimed₀ z) b (free-target n C w T)))
-      | no b ↦ other-freed n (omega arith) a b (free-target n C w T)
+      | yes b ↦ subst (λ z. Unaimed z) (sym b) (to_freed (ht (sym b)) (subst (λ z. Unaimed₀ z) b (free_target n C w T)))
+      | no b ↦ other_freed n (omega arith) a b (free_target n C w T)
     ]
   ]
 
@@ -137,16 +137,16 @@ module _ (n C : ℕ) (w : List ℕ) (u k v t : ℕ) (T : Threaded n C w) (hu : u
   moves ht = record {
     threaded = record {
       room = T.room;
-      long = moved-table n C w u k v t T hu hv d hk;
-      reaches = all-reach;
-      whole = moved-lengths n C w u k v t T hu hv d hk ∙ T.whole;
-      freed = after-freed ht;
+      long = moved_table n C w u k v t T hu hv d hk;
+      reaches = all_reach;
+      whole = moved_lengths n C w u k v t T hu hv d hk ∙ T.whole;
+      freed = after_freed ht;
     };
-    run = moved-run n C w u k v t T hu hv d hk;
-    from-count = moved-from-count n C w u k v t T hu hv d hk;
-    from-cells = from_list;
-    to-count = moved-to-count n C w u k v t T hu hv d hk;
-    to-cells = to-list;
-    other-count = λ z hz a b. (moved-list n C w u k v t T hu hv d hk z hz a b).count;
-    other-cells = other-list;
+    run = moved_run n C w u k v t T hu hv d hk;
+    from_count = moved_from_count n C w u k v t T hu hv d hk;
+    from_cells = from_list;
+    to_count = moved_to_count n C w u k v t T hu hv d hk;
+    to_cells = to_list;
+    other_count = λ z hz a b. (moved_list n C w u k v t T hu hv d hk z hz a b).count;
+    other_cells = other_list;
   }

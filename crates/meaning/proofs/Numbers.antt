@@ -12,18 +12,18 @@ use Rattle.terms.specs.Refusal.{value_of}
 use Rattle.meaning.specs.Cells.{Cell, Lists, list, links, holds}
 use Rattle.meaning.specs.Turning.{Ending, settled, dense}
 use Rattle.meaning.specs.Day.{Day, place_of}
-use Rattle.meaning.specs.Calls.{Call, openRun, closeRun, link, unlink, ask, reading, Outcome, done, ended, link_in, doLink, doUnlink, cut, linked, yes1, tests, firstRefusal, act, call}
-use Rattle.meaning.proofs.Kept.{joined, run, link-run, new-link, call-case}
-use Rattle.meaning.proofs.Lists.{first-most}
+use Rattle.meaning.specs.Calls.{Call, open_run, close_run, link, unlink, ask, reading, Outcome, done, ended, link_in, do_link, do_unlink, cut, linked, yes1, tests, first_refusal, act, call}
+use Rattle.meaning.proofs.Kept.{joined, run, link_run, new_link, call_case}
+use Rattle.meaning.proofs.Lists.{first_most}
 use Rattle.meaning.proofs.Right.{Right, outside}
-use Rattle.meaning.proofs.Sums.{push-sum, push-length}
-use Rattle.meaning.proofs.Turnings.{Ends, Stands, stands-start, begun, begun-waits, turning-few}
-use Rattle.meaning.proofs.Waiting.{none-waits}
+use Rattle.meaning.proofs.Sums.{push_sum, push_length}
+use Rattle.meaning.proofs.Turnings.{Ends, Stands, stands_start, begun, begun_waits, turning_few}
+use Rattle.meaning.proofs.Waiting.{none_waits}
 
 -- every call but the reading of a set
 abbrev pub Plain : Call → Type 0
-Plain (openRun p) = Unit {0}
-Plain (closeRun p) = Unit {0}
+Plain (open_run p) = Unit {0}
+Plain (close_run p) = Unit {0}
 Plain (link p q) = Unit {0}
 Plain (unlink p q) = Unit {0}
 Plain (ask p q) = Unit {0}
@@ -33,35 +33,35 @@ Plain (reading ps) = ⊥
 abbrev Most : ℕ → Outcome → Type 0
 Most m o = value_of o.answer ≤ m
 
-yes-most : (b : Bool) → yes1 b ≤ 1
-yes-most true = omega arith
-yes-most false = omega arith
+yes_most : (b : Bool) → yes1 b ≤ 1
+yes_most true = omega arith
+yes_most false = omega arith
 
 module _ (n D : ℕ) (s : Day) (ok : Right n D s) where
-  link-most : (u v i : ℕ) (fs : List ℕ) → u < n → v < n → Most ((links s.lists + 1) * (links s.lists + 1)) (link_in D s u v i fs)
-  link-most u v i fs hu hv =
+  link_most : (u v i : ℕ) (fs : List ℕ) → u < n → v < n → Most ((links s.lists + 1) * (links s.lists + 1)) (link_in D s u v i fs)
+  link_most u v i fs hu hv =
       let c : Cell = record { index = i; target = v } in
       let rows : u < length s.lists = omega (arith, ok.rows) in
-      let new : links (joined s u v i) ≡ links s.lists + 1 = push-sum (λ a b. 1) s.lists u c rows in
+      let new : links (joined s u v i) ≡ links s.lists + 1 = push_sum (λ a b. 1) s.lists u c rows in
       let st : Stands n D (joined s u v i) (joined s u v i) (begun D (joined s u v i) u) 0 =
-      stands-start n D (joined s u v i) (begun D (joined s u v i) u) (push-length s.lists u c ∙ ok.rows)
-      (omega (arith, ok.inside, ok.rows, push-sum (outside n) s.lists u c rows))
-      (begun-waits D s.lists u c rows (none-waits D s.lists ok.short)) in
+      stands_start n D (joined s u v i) (begun D (joined s u v i) u) (push_length s.lists u c ∙ ok.rows)
+      (omega (arith, ok.inside, ok.rows, push_sum (outside n) s.lists u c rows))
+      (begun_waits D s.lists u c rows (none_waits D s.lists ok.short)) in
       rw (← new)
-      (link-run (λ a d. value_of a ≤ links (joined s u v i) * links (joined s u v i)) D s u v i fs
+      (link_run (λ a d. value_of a ≤ links (joined s u v i) * links (joined s u v i)) D s u v i fs
       (go (run D s u v i) (links (joined s u v i) * links (joined s u v i))
-      (turning-few n D (links (joined s u v i)) (joined s u v i) (joined s u v i) (begun D (joined s u v i) u) 0 st)))
+      (turning_few n D (links (joined s u v i)) (joined s u v i) (joined s u v i) (begun D (joined s u v i) u) 0 st)))
     where
       go : (o : Ending) (k : ℕ) → Ends (λ ls' st' r'. r' ≤ 0 + k) o → value_of (ended s fs o).answer ≤ k
       go (settled ls r) k h = omega arith
       go dense k h = omega arith
 
-  do-link-most : (u v : ℕ) (fs : List ℕ) → u < n → v < n → Most ((links s.lists + 1) * (links s.lists + 1)) (doLink D s u v fs)
-  do-link-most u v [] hu hv = omega arith
-  do-link-most u v (i ∷ fs) hu hv = link-most u v i fs hu hv
+  do_link_most : (u v : ℕ) (fs : List ℕ) → u < n → v < n → Most ((links s.lists + 1) * (links s.lists + 1)) (do_link D s u v fs)
+  do_link_most u v [] hu hv = omega arith
+  do_link_most u v (i ∷ fs) hu hv = link_most u v i fs hu hv
 
-  unlink-most : (u v : ℕ) → Most 1 (doUnlink s u v)
-  unlink-most u v = go (holds v (list s.lists u))
+  unlink_most : (u v : ℕ) → Most 1 (do_unlink s u v)
+  unlink_most u v = go (holds v (list s.lists u))
     where
       go : (b : Bool) → Most 1 (elim b [ true ↦ done 0 (cut s u v) | false ↦ done 0 (cut s v u) ])
       go true = omega arith
@@ -69,42 +69,42 @@ module _ (n D : ℕ) (s : Day) (ok : Right n D s) where
 
   -- m bounds the places and the square of the links with a new one
   module _ (m : ℕ) (hn : n ≤ m) (one : 1 ≤ m) (hl : (links s.lists + 1) * (links s.lists + 1) ≤ m) where
-    act-most : (q : Call) → Plain q → firstRefusal (tests s q) ≡ none → Most m (act D s q)
-    act-most (openRun p) w e = omega (arith, first-most (λ r. eqb r.line 0) s.runs, ok.places)
-    act-most (closeRun p) w e = omega arith
-    act-most (link p q) w e =
-        let b = (new-link n D s ok p q e).0 in
-        omega (arith, do-link-most (place_of s p) (place_of s q) s.free b.place-p b.place-q)
-    act-most (unlink p q) w e = omega (arith, unlink-most (place_of s p) (place_of s q))
-    act-most (ask p q) w e = omega (arith, yes-most (linked s (place_of s p) (place_of s q)))
-    act-most (reading ps) w e = absurd w
+    act_most : (q : Call) → Plain q → first_refusal (tests s q) ≡ none → Most m (act D s q)
+    act_most (open_run p) w e = omega (arith, first_most (λ r. eqb r.line 0) s.runs, ok.places)
+    act_most (close_run p) w e = omega arith
+    act_most (link p q) w e =
+        let b = (new_link n D s ok p q e).0 in
+        omega (arith, do_link_most (place_of s p) (place_of s q) s.free b.place_p b.place_q)
+    act_most (unlink p q) w e = omega (arith, unlink_most (place_of s p) (place_of s q))
+    act_most (ask p q) w e = omega (arith, yes_most (linked s (place_of s p) (place_of s q)))
+    act_most (reading ps) w e = absurd w
 
-    pub call-most : (q : Call) → Plain q → value_of (call D s q).answer ≤ m
-    call-most q w = call-case (λ o. Most m o) D s q (λ why e. omega arith) (act-most q w)
+    pub call_most : (q : Call) → Plain q → value_of (call D s q).answer ≤ m
+    call_most q w = call_case (λ o. Most m o) D s q (λ why e. omega arith) (act_most q w)
 
 -- only a link begins turning
 abbrev pub Calm : Call → Type 0
-Calm (openRun p) = Unit {0}
-Calm (closeRun p) = Unit {0}
+Calm (open_run p) = Unit {0}
+Calm (close_run p) = Unit {0}
 Calm (link p q) = ⊥
 Calm (unlink p q) = Unit {0}
 Calm (ask p q) = Unit {0}
 Calm (reading ps) = Unit {0}
 
-unlink-calm : (s : Day) (u v : ℕ) → (doUnlink s u v).began ≡ false
-unlink-calm s u v = go (holds v (list s.lists u))
+unlink_calm : (s : Day) (u v : ℕ) → (do_unlink s u v).began ≡ false
+unlink_calm s u v = go (holds v (list s.lists u))
   where
     go : (b : Bool) → (elim b as (λ x. Outcome) [ true ↦ done 0 (cut s u v) | false ↦ done 0 (cut s v u) ]).began ≡ false
     go true = refl
     go false = refl
 
-act-calm : (D : ℕ) (s : Day) (q : Call) → Calm q → (act D s q).began ≡ false
-act-calm D s (openRun p) w = refl
-act-calm D s (closeRun p) w = refl
-act-calm D s (link p q) w = absurd w
-act-calm D s (unlink p q) w = unlink-calm s (place_of s p) (place_of s q)
-act-calm D s (ask p q) w = refl
-act-calm D s (reading ps) w = refl
+act_calm : (D : ℕ) (s : Day) (q : Call) → Calm q → (act D s q).began ≡ false
+act_calm D s (open_run p) w = refl
+act_calm D s (close_run p) w = refl
+act_calm D s (link p q) w = absurd w
+act_calm D s (unlink p q) w = unlink_calm s (place_of s p) (place_of s q)
+act_calm D s (ask p q) w = refl
+act_calm D s (reading ps) w = refl
 
-pub call-calm : (D : ℕ) (s : Day) (q : Call) → Calm q → (call D s q).began ≡ false
-call-calm D s q w = call-case (λ o. o.began ≡ false) D s q (λ why e. refl) (λ e. act-calm D s q w)
+pub call_calm : (D : ℕ) (s : Day) (q : Call) → Calm q → (call D s q).began ≡ false
+call_calm D s q w = call_case (λ o. o.began ≡ false) D s q (λ why e. refl) (λ e. act_calm D s q w)

@@ -6,7 +6,7 @@ use mathlib.Core.Path.{◌≡◌}
 use Rattle.terms.specs.declared.refusal.Answer.TheVariants.{Refused}
 use Rattle.terms.specs.declared.refusal.Refusal.TheVariants.{BadSet}
 use Rattle.meaning.specs.Day.{Day}
-use Rattle.meaning.specs.Calls.{reading, badSet, call}
+use Rattle.meaning.specs.Calls.{reading, bad_set, call}
 
-pub set_first : (D : ℕ) (s : Day) (ps : List ℕ) → badSet ps ≡ true → (call D s (reading ps)).answer ≡ Refused BadSet
+pub set_first : (D : ℕ) (s : Day) (ps : List ℕ) → bad_set ps ≡ true → (call D s (reading ps)).answer ≡ Refused BadSet
 set_first D s ps h = rw h

@@ -3,7 +3,7 @@
 use Prim.Native.Nat.{ℕ, ◌+◌, ◌-◌, ◌*◌, ◌≤◌, ◌<◌}
 use mathlib.Core.Path.{◌≡◌}
 use lib.ListN.{length}
-use Rattle.terms.specs.Run.{lineMost}
+use Rattle.terms.specs.Run.{line_most}
 use Rattle.terms.specs.declared.run.Run.{Run}
 use Rattle.meaning.specs.Cells.{Weight, list, sum, same}
 use Rattle.meaning.specs.Day.{Day, run_of}
@@ -29,7 +29,7 @@ pair p q v c = same p v * same q c.target + same p c.target * same q v
 pub record Right (n D : ℕ) (s : Day) : Type 0 where
   pub places : length s.runs ≡ n
   pub rows : length s.lists ≡ n
-  pub small : (v : ℕ) → v < n → (run_of s v).line ≤ lineMost
+  pub small : (v : ℕ) → v < n → (run_of s v).line ≤ line_most
   pub freed : (v : ℕ) → v < n → (run_of s v).line ≡ 0 → (run_of s v).trip ≡ 0
   pub apart : (u v : ℕ) → 0 < (run_of s u).line → run_of s u ≡ run_of s v → u ≡ v
   pub short : (v : ℕ) → length (list s.lists v) ≤ D

@@ -8,32 +8,32 @@ use native.Mathlib.Omega.{arith}
 use lib.Dec.{ltb}
 use borrow.Author.Tests.{ltb-true}
 use Rattle.meaning.specs.Calls.{rising, in_set}
-use Rattle.meaning.proofs.Same.{same-le, same-ne}
+use Rattle.meaning.proofs.Same.{same_le, same_ne}
 
 -- two tests that must both pass
-pub and-false : (a b : Bool) → b ≡ false → (a && b) ≡ false
-and-false true b e = e
-and-false false b e = refl
+pub and_false : (a b : Bool) → b ≡ false → (a && b) ≡ false
+and_false true b e = e
+and_false false b e = refl
 
-pub and-true : (a b : Bool) → (a && b) ≡ true → (a ≡ true) × (b ≡ true)
-and-true true b e = (refl, e)
-and-true false b e = absurd (let z : ◌≡◌ {A = ℕ} 0 1 = cc in omega arith)
+pub and_true : (a b : Bool) → (a && b) ≡ true → (a ≡ true) × (b ≡ true)
+and_true true b e = (refl, e)
+and_true false b e = absurd (let z : ◌≡◌ {A = ℕ} 0 1 = cc in omega arith)
 
-pub rising-tail : (p q : ℕ) (ps : List ℕ) → rising (p ∷ q ∷ ps) ≡ true → (p < q) × (rising (q ∷ ps) ≡ true)
-rising-tail p q ps e = let a : (ltb p q ≡ true) × (rising (q ∷ ps) ≡ true) = and-true (ltb p q) (rising (q ∷ ps)) e in (ltb-true p q a.0, a.1)
+pub rising_tail : (p q : ℕ) (ps : List ℕ) → rising (p ∷ q ∷ ps) ≡ true → (p < q) × (rising (q ∷ ps) ≡ true)
+rising_tail p q ps e = let a : (ltb p q ≡ true) × (rising (q ∷ ps) ≡ true) = and_true (ltb p q) (rising (q ∷ ps)) e in (ltb-true p q a.0, a.1)
 
 -- a place below the first isn't in the set
-below-first : (v q : ℕ) (ps : List ℕ) → rising (q ∷ ps) ≡ true → v < q → in_set (q ∷ ps) v ≡ 0
-below-first v q [] e h = omega (arith, same-ne q v (λ z. omega arith))
-below-first v q (r ∷ ps) e h =
-    let t : (q < r) × (rising (r ∷ ps) ≡ true) = rising-tail q r ps e in omega (arith, same-ne q v (λ z. omega arith), below-first v r ps t.1 (omega arith))
+below_first : (v q : ℕ) (ps : List ℕ) → rising (q ∷ ps) ≡ true → v < q → in_set (q ∷ ps) v ≡ 0
+below_first v q [] e h = omega (arith, same_ne q v (λ z. omega arith))
+below_first v q (r ∷ ps) e h =
+    let t : (q < r) × (rising (r ∷ ps) ≡ true) = rising_tail q r ps e in omega (arith, same_ne q v (λ z. omega arith), below_first v r ps t.1 (omega arith))
 
-pub in-once : (v : ℕ) (ps : List ℕ) → rising ps ≡ true → in_set ps v ≤ 1
-in-once v [] e = omega arith
-in-once v (p ∷ []) e = omega (arith, same-le p v)
-in-once v (p ∷ q ∷ ps) e =
-    let t : (p < q) × (rising (q ∷ ps) ≡ true) = rising-tail p q ps e in
+pub in_once : (v : ℕ) (ps : List ℕ) → rising ps ≡ true → in_set ps v ≤ 1
+in_once v [] e = omega arith
+in_once v (p ∷ []) e = omega (arith, same_le p v)
+in_once v (p ∷ q ∷ ps) e =
+    let t : (p < q) × (rising (q ∷ ps) ≡ true) = rising_tail p q ps e in
     elim (ℕ_discrete p v) [
-      | yes z ↦ omega (arith, same-le p v, below-first v q ps t.1 (omega arith))
-      | no z ↦ omega (arith, same-ne p v z, in-once v (q ∷ ps) t.1)
+      | yes z ↦ omega (arith, same_le p v, below_first v q ps t.1 (omega arith))
+      | no z ↦ omega (arith, same_ne p v z, in_once v (q ∷ ps) t.1)
     ]

@@ -4,33 +4,33 @@ use mathlib.Core.List.{List, [], ◌∷◌}
 use mathlib.Core.Path.{◌≡◌, refl}
 use native.Mathlib.Omega.{arith}
 use lib.ListN.{length, drop, length-drop}
-use Rattle.record.specs.Bytes.{recordBytes}
+use Rattle.record.specs.Bytes.{record_bytes}
 use Rattle.record.specs.Reading.{reading_of}
 use Rattle.record.specs.declared.Record.{Record}
 use Rattle.record.specs.declared.reader.Reading.{Reading}
 use Rattle.record.specs.declared.reader.Reading.TheVariants as reading
 use Rattle.record.proofs.Readings.{whole_long}
 use Rattle.meaning.specs.Promise.{Tables, progress}
-use Rattle.meaning.specs.Stream.{Day-records, read_on, read_all, recordsOf, Progress, carry, carryAll}
+use Rattle.meaning.specs.Stream.{Day-records, read_on, read_all, records_of, Progress, carry, carry_all}
 
-read-within : (k : ℕ) (s : List ℕ) → recordBytes * length (read_all k s).records ≤ length s
+read_within : (k : ℕ) (s : List ℕ) → record_bytes * length (read_all k s).records ≤ length s
 unfolding read_all
-read-within zero s = omega arith
-read-within (suc k) s = go (reading_of s) refl (read_all k (drop recordBytes s)) (read-within k (drop recordBytes s))
+read_within zero s = omega arith
+read_within (suc k) s = go (reading_of s) refl (read_all k (drop record_bytes s)) (read_within k (drop record_bytes s))
   where
-    go : (r : Reading) → reading_of s ≡ r → (rest : Day-records) → recordBytes * length rest.records ≤ length (drop recordBytes s)
-        → recordBytes * length (read_on r rest).records ≤ length s
-    go (reading.Whole x) e rest h = omega (arith, whole_long s x e, length-drop recordBytes s)
+    go : (r : Reading) → reading_of s ≡ r → (rest : Day-records) → record_bytes * length rest.records ≤ length (drop record_bytes s)
+        → record_bytes * length (read_on r rest).records ≤ length s
+    go (reading.Whole x) e rest h = omega (arith, whole_long s x e, length-drop record_bytes s)
     go reading.End e rest h = omega arith
     go (reading.Refused why) e rest h = omega arith
 
-carried-all : (D : ℕ) (rs : List Record) (p : Progress) → (carryAll D rs p).carried ≡ p.carried + length rs
-unfolding carryAll
-carried-all D [] p = omega arith
-carried-all D (r ∷ rs) p = omega (arith, carried-all D rs (carry D p r))
+carried_all : (D : ℕ) (rs : List Record) (p : Progress) → (carry_all D rs p).carried ≡ p.carried + length rs
+unfolding carry_all
+carried_all D [] p = omega arith
+carried_all D (r ∷ rs) p = omega (arith, carried_all D rs (carry D p r))
 
-pub records-within : (D : ℕ) (bytes : List ℕ) (p : Progress) → p.carried ≡ 0 → recordBytes * (carryAll D (recordsOf bytes).records p).carried ≤ length bytes
-records-within D bytes p e = omega (arith, carried-all D (recordsOf bytes).records p, read-within (length bytes) bytes)
+pub records_within : (D : ℕ) (bytes : List ℕ) (p : Progress) → p.carried ≡ 0 → record_bytes * (carry_all D (records_of bytes).records p).carried ≤ length bytes
+records_within D bytes p e = omega (arith, carried_all D (records_of bytes).records p, read_within (length bytes) bytes)
 
-pub progress-within : (n C D : ℕ) (bytes : List ℕ) (t : Tables) → recordBytes * (progress n C D bytes t).carried ≤ length bytes
-progress-within n C D bytes t = records-within D bytes _ refl
+pub progress_within : (n C D : ℕ) (bytes : List ℕ) (t : Tables) → record_bytes * (progress n C D bytes t).carried ≤ length bytes
+progress_within n C D bytes t = records_within D bytes _ refl

@@ -14,10 +14,10 @@ unfoldable pub times : ℕ → List ℕ → ℕ
 times k [] = 0
 times k (x ∷ l) = same k x + times k l
 
-pub times-append : (k : ℕ) (a b : List ℕ) → times k (a ++ b) ≡ times k a + times k b
+pub times_append : (k : ℕ) (a b : List ℕ) → times k (a ++ b) ≡ times k a + times k b
 unfolding times
-times-append k [] b = omega arith
-times-append k (x ∷ a) b = omega (arith, times-append k a b)
+times_append k [] b = omega arith
+times_append k (x ∷ a) b = omega (arith, times_append k a b)
 
 -- the sum of f below c
 unfoldable pub sum_to : ℕ → (ℕ → ℕ) → ℕ
@@ -34,17 +34,17 @@ unfolding sum_to
 sum-zero zero = refl
 sum-zero (suc c) = omega (arith, sum-zero c)
 
-sum-same-out : (c x : ℕ) → c ≤ x → sum_to c (λ k. same k x) ≡ 0
+sum_same_out : (c x : ℕ) → c ≤ x → sum_to c (λ k. same k x) ≡ 0
 unfolding sum_to
-sum-same-out zero x h = refl
-sum-same-out (suc c) x h = let i = sum-same-out c x (omega arith) in ⊎_elim (λ p. absurd (omega arith)) (λ p. omega arith) (same_cases c x)
+sum_same_out zero x h = refl
+sum_same_out (suc c) x h = let i = sum_same_out c x (omega arith) in ⊎_elim (λ p. absurd (omega arith)) (λ p. omega arith) (same_cases c x)
 
 sum_same : (c x : ℕ) → x < c → sum_to c (λ k. same k x) ≡ 1
 unfolding sum_to
 sum_same zero x h = absurd (omega arith)
 sum_same (suc c) x h =
     ⊎_elim
-    (λ p. let i = sum-same-out c x (omega arith) in omega arith)
+    (λ p. let i = sum_same_out c x (omega arith) in omega arith)
     (λ p. let d : c ≡ x → ⊥ = p.0 in let i = sum_same c x (omega arith) in omega arith)
     (same_cases c x)
 
@@ -53,15 +53,15 @@ unfoldable pub Below : ℕ → List ℕ → Type 0
 Below c [] = Unit {0}
 Below c (x ∷ l) = (x < c) × Below c l
 
-pub below-append : (c : ℕ) (a b : List ℕ) → Below c a → Below c b → Below c (a ++ b)
+pub below_append : (c : ℕ) (a b : List ℕ) → Below c a → Below c b → Below c (a ++ b)
 unfolding Below
-below-append c [] b p q = q
-below-append c (x ∷ a) b p q = (p.0, below-append c a b p.1 q)
+below_append c [] b p q = q
+below_append c (x ∷ a) b p q = (p.0, below_append c a b p.1 q)
 
-pub sum-times : (c : ℕ) (l : List ℕ) → Below c l → sum_to c (λ k. times k l) ≡ length l
+pub sum_times : (c : ℕ) (l : List ℕ) → Below c l → sum_to c (λ k. times k l) ≡ length l
 unfolding times Below
-sum-times c [] h = sum-zero c
-sum-times c (x ∷ l) h = omega (arith, sum-add c (λ k. same k x) (λ k. times k l), sum-times c l h.1, sum_same c x h.0)
+sum_times c [] h = sum-zero c
+sum_times c (x ∷ l) h = omega (arith, sum-add c (λ k. same k x) (λ k. times k l), sum_times c l h.1, sum_same c x h.0)
 
 sum-le : (c : ℕ) (f : ℕ → ℕ) → ((k : ℕ) → k < c → f k ≤ 1) → sum_to c f ≤ c
 unfolding sum_to
@@ -80,5 +80,5 @@ full (suc c) f h e k p =
     (λ q. let d : k ≡ c → ⊥ = q.0 in full c f (λ j r. h j (omega arith)) (omega arith) k (omega arith))
     (same_cases k c)
 
-pub each-once : (c : ℕ) (l : List ℕ) → Below c l → length l ≡ c → ((k : ℕ) → k < c → times k l ≤ 1) → (k : ℕ) → k < c → times k l ≡ 1
-each-once c l b e h = full c (λ k. times k l) h (sum-times c l b ∙ e)
+pub each_once : (c : ℕ) (l : List ℕ) → Below c l → length l ≡ c → ((k : ℕ) → k < c → times k l ≤ 1) → (k : ℕ) → k < c → times k l ≡ 1
+each_once c l b e h = full c (λ k. times k l) h (sum_times c l b ∙ e)

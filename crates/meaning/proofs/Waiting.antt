@@ -11,10 +11,10 @@ use lib.ListN.{length, get_or-eq_default}
 use lib.Seq.{get_or-set_same, get_or-set_other}
 use borrow.Author.Tests.{eqb-true, eqb-false, ltb-true, ltb-false}
 use Rattle.meaning.specs.Cells.{Cell, Lists, aimed, list, push, bare, sum, same}
-use Rattle.meaning.specs.Turning.{Work, over, put, hand, handAll, turn}
-use Rattle.meaning.proofs.Same.{same-eq, same-le, same-ne}
+use Rattle.meaning.specs.Turning.{Work, over, put, hand, hand_all, turn}
+use Rattle.meaning.proofs.Same.{same_eq, same_le, same_ne}
 use Rattle.meaning.proofs.Right.{outside}
-use Rattle.meaning.proofs.Sums.{push-length, bare-length, Near, near}
+use Rattle.meaning.proofs.Sums.{push_length, bare_length, Near, near}
 
 -- how often z waits
 abbrev pub count : ℕ → List ℕ → ℕ
@@ -29,96 +29,96 @@ abbrev pub Waits : ℕ → Lists → List ℕ → Type 0
 Waits D ls st = (z : ℕ) → count z st ≡ beyond D (length (list ls z))
 
 -- the list of any place after a cell is put at the front of x's
-pub push-list : (ls : Lists) (x : ℕ) (c : Cell) → x < length ls → list (push ls x c) x ≡ c ∷ list ls x
-push-list ls x c h = get_or-set_same ls x (c ∷ list ls x) [] h
+pub push_list : (ls : Lists) (x : ℕ) (c : Cell) → x < length ls → list (push ls x c) x ≡ c ∷ list ls x
+push_list ls x c h = get_or-set_same ls x (c ∷ list ls x) [] h
 
-pub push-other : (ls : Lists) (x z : ℕ) (c : Cell) → (z ≡ x → ⊥) → list (push ls x c) z ≡ list ls z
-push-other ls x z c n = get_or-set_other ls x z (c ∷ list ls x) [] n
+pub push_other : (ls : Lists) (x z : ℕ) (c : Cell) → (z ≡ x → ⊥) → list (push ls x c) z ≡ list ls z
+push_other ls x z c n = get_or-set_other ls x z (c ∷ list ls x) [] n
 
-pub bare-list : (ls : Lists) (w : ℕ) → list (bare ls w) w ≡ []
-bare-list [] w = refl
-bare-list (k ∷ ls) zero = refl
-bare-list (k ∷ ls) (suc w) = bare-list ls w
+pub bare_list : (ls : Lists) (w : ℕ) → list (bare ls w) w ≡ []
+bare_list [] w = refl
+bare_list (k ∷ ls) zero = refl
+bare_list (k ∷ ls) (suc w) = bare_list ls w
 
-pub bare-other : (ls : Lists) (w z : ℕ) → (z ≡ w → ⊥) → list (bare ls w) z ≡ list ls z
-bare-other ls w z n = get_or-set_other ls w z [] [] n
+pub bare_other : (ls : Lists) (w z : ℕ) → (z ≡ w → ⊥) → list (bare ls w) z ≡ list ls z
+bare_other ls w z n = get_or-set_other ls w z [] [] n
 
 -- no place from n on has a list
-pub past-list : (ls : Lists) (z : ℕ) → length ls ≤ z → list ls z ≡ []
-past-list ls z h = get_or-eq_default ls [] {n = z} h
+pub past_list : (ls : Lists) (z : ℕ) → length ls ≤ z → list ls z ≡ []
+past_list ls z h = get_or-eq_default ls [] {n = z} h
 
 put_count : (z x a b : ℕ) (st : List ℕ) → count z (put (eqb a b) x st) ≡ count z st + min (same z x) (same a b)
 put_count z x a b st = go (eqb a b) refl
   where
     go : (t : Bool) → eqb a b ≡ t → count z (put t x st) ≡ count z st + min (same z x) (same a b)
-    go true e = omega (arith, same-eq a b (eqb-true a b e), same-le z x)
-    go false e = omega (arith, same-ne a b (eqb-false a b e))
+    go true e = omega (arith, same_eq a b (eqb-true a b e), same_le z x)
+    go false e = omega (arith, same_ne a b (eqb-false a b e))
 
 -- D is passed by one more: it was passed, or it was reached
-beyond-suc : (D L : ℕ) → beyond D (suc L) ≡ beyond D L + same (suc L) (D + 1)
-beyond-suc D L = elim (ℕ_discrete (suc L) (D + 1)) [
-  | yes e ↦ omega (arith, same-eq (suc L) (D + 1) e)
-  | no n ↦ omega (arith, same-ne (suc L) (D + 1) n)
+beyond_suc : (D L : ℕ) → beyond D (suc L) ≡ beyond D L + same (suc L) (D + 1)
+beyond_suc D L = elim (ℕ_discrete (suc L) (D + 1)) [
+  | yes e ↦ omega (arith, same_eq (suc L) (D + 1) e)
+  | no n ↦ omega (arith, same_ne (suc L) (D + 1) n)
 ]
 
 -- a cell at the front of x's list, and x put to wait if its length is then D + 1
-pub push-waits : (D : ℕ) (ls : Lists) (st : List ℕ) (x : ℕ) (c : Cell) → x < length ls → Waits D ls st
+pub push_waits : (D : ℕ) (ls : Lists) (st : List ℕ) (x : ℕ) (c : Cell) → x < length ls → Waits D ls st
     → Waits D (push ls x c) (put (over D (push ls x c) x) x st)
-push-waits D ls st x c h p z =
-    let e : length (list (push ls x c) x) ≡ suc (length (list ls x)) = ap length (push-list ls x c h) in
+push_waits D ls st x c h p z =
+    let e : length (list (push ls x c) x) ≡ suc (length (list ls x)) = ap length (push_list ls x c h) in
     let q : count z (put (over D (push ls x c) x) x st) ≡ count z st + min (same z x) (same (suc (length (list ls x))) (D + 1)) =
     put_count z x (length (list (push ls x c) x)) (D + 1) st ∙ rw e in
     elim (ℕ_discrete z x) [
-      | yes f ↦ q ∙ rw (f, e, beyond-suc) (omega (arith, p x, ap (λ (y : ℕ). count y st) f, same-eq x x refl, same-le (suc (length (list ls x))) (D + 1)))
-      | no n ↦ q ∙ rw (push-other ls x z c n) (omega (arith, p z, same-ne z x n))
+      | yes f ↦ q ∙ rw (f, e, beyond_suc) (omega (arith, p x, ap (λ (y : ℕ). count y st) f, same_eq x x refl, same_le (suc (length (list ls x))) (D + 1)))
+      | no n ↦ q ∙ rw (push_other ls x z c n) (omega (arith, p z, same_ne z x n))
     ]
 
-pub hand-waits : (D w : ℕ) (c : Cell) (k : Work) → c.target < length k.lists → Waits D k.lists k.waiting
+pub hand_waits : (D w : ℕ) (c : Cell) (k : Work) → c.target < length k.lists → Waits D k.lists k.waiting
     → Waits D (hand D w c k).lists (hand D w c k).waiting
-hand-waits D w c k h p = push-waits D k.lists k.waiting c.target (aimed c w) h p
+hand_waits D w c k h p = push_waits D k.lists k.waiting c.target (aimed c w) h p
 
-pub handAll-waits : (D w n : ℕ) (cs : List Cell) (k : Work) → length k.lists ≡ n → Near n cs → Waits D k.lists k.waiting
-    → Waits D (handAll D w cs k).lists (handAll D w cs k).waiting
-unfolding handAll
-handAll-waits D w n [] k e h p = p
-handAll-waits D w n (c ∷ cs) k e h p =
-    handAll-waits D w n cs (hand D w c k) (push-length k.lists c.target (aimed c w) ∙ e) (omega arith) (hand-waits D w c k (omega arith) p)
+pub hand_all_waits : (D w n : ℕ) (cs : List Cell) (k : Work) → length k.lists ≡ n → Near n cs → Waits D k.lists k.waiting
+    → Waits D (hand_all D w cs k).lists (hand_all D w cs k).waiting
+unfolding hand_all
+hand_all_waits D w n [] k e h p = p
+hand_all_waits D w n (c ∷ cs) k e h p =
+    hand_all_waits D w n cs (hand D w c k) (push_length k.lists c.target (aimed c w) ∙ e) (omega arith) (hand_waits D w c k (omega arith) p)
 
-pub bare-waits : (D : ℕ) (ls : Lists) (w : ℕ) (st : List ℕ) → Waits D ls (w ∷ st) → Waits D (bare ls w) st
-bare-waits D ls w st p z = elim (ℕ_discrete z w) [
-  | yes e ↦ rw e (omega (arith, p w, same-eq w w refl, ap length (bare-list ls w)))
-  | no n ↦ rw (bare-other ls w z n) (omega (arith, p z, same-ne z w n))
+pub bare_waits : (D : ℕ) (ls : Lists) (w : ℕ) (st : List ℕ) → Waits D ls (w ∷ st) → Waits D (bare ls w) st
+bare_waits D ls w st p z = elim (ℕ_discrete z w) [
+  | yes e ↦ rw e (omega (arith, p w, same_eq w w refl, ap length (bare_list ls w)))
+  | no n ↦ rw (bare_other ls w z n) (omega (arith, p z, same_ne z w n))
 ]
 
-pub turn-waits : (D w n : ℕ) (ls : Lists) (st : List ℕ) → length ls ≡ n → sum (outside n) ls ≡ 0 → Waits D ls (w ∷ st)
+pub turn_waits : (D w n : ℕ) (ls : Lists) (st : List ℕ) → length ls ≡ n → sum (outside n) ls ≡ 0 → Waits D ls (w ∷ st)
     → Waits D (turn D w ls st).lists (turn D w ls st).waiting
-turn-waits D w n ls st e h p =
-    handAll-waits D w n (list ls w) (record { lists = bare ls w; waiting = st }) (bare-length ls w ∙ e) (near n w ls h) (bare-waits D ls w st p)
+turn_waits D w n ls st e h p =
+    hand_all_waits D w n (list ls w) (record { lists = bare ls w; waiting = st }) (bare_length ls w ∙ e) (near n w ls h) (bare_waits D ls w st p)
 
 -- no place waits: no list is longer than D, and the other way round
-pub waits-none : (D : ℕ) (ls : Lists) → Waits D ls [] → (z : ℕ) → length (list ls z) ≤ D
-waits-none D ls p z = omega (arith, p z)
+pub waits_none : (D : ℕ) (ls : Lists) → Waits D ls [] → (z : ℕ) → length (list ls z) ≤ D
+waits_none D ls p z = omega (arith, p z)
 
-pub none-waits : (D : ℕ) (ls : Lists) → ((z : ℕ) → length (list ls z) ≤ D) → Waits D ls []
-none-waits D ls h z = omega (arith, h z)
+pub none_waits : (D : ℕ) (ls : Lists) → ((z : ℕ) → length (list ls z) ≤ D) → Waits D ls []
+none_waits D ls h z = omega (arith, h z)
 
 -- a place waits: its list is longer than D, and it is a place
-pub waits-first : (D : ℕ) (ls : Lists) (w : ℕ) (st : List ℕ) → Waits D ls (w ∷ st) → D < length (list ls w)
-waits-first D ls w st p = omega (arith, p w, same-eq w w refl)
+pub waits_first : (D : ℕ) (ls : Lists) (w : ℕ) (st : List ℕ) → Waits D ls (w ∷ st) → D < length (list ls w)
+waits_first D ls w st p = omega (arith, p w, same_eq w w refl)
 
-count-mem : (z : ℕ) (st : List ℕ) → Memᴰ z st → 1 ≤ count z st
-count-mem z (y ∷ st) (Memᴰ.head e) = omega (arith, same-eq z y e)
-count-mem z (y ∷ st) (Memᴰ.tail m) = omega (arith, count-mem z st m)
+count_mem : (z : ℕ) (st : List ℕ) → Memᴰ z st → 1 ≤ count z st
+count_mem z (y ∷ st) (Memᴰ.head e) = omega (arith, same_eq z y e)
+count_mem z (y ∷ st) (Memᴰ.tail m) = omega (arith, count_mem z st m)
 
-pub waits-over : (D : ℕ) (ls : Lists) (st : List ℕ) → Waits D ls st → (z : ℕ) → Memᴰ z st → D < length (list ls z)
-waits-over D ls st p z m = omega (arith, p z, count-mem z st m)
+pub waits_over : (D : ℕ) (ls : Lists) (st : List ℕ) → Waits D ls st → (z : ℕ) → Memᴰ z st → D < length (list ls z)
+waits_over D ls st p z m = omega (arith, p z, count_mem z st m)
 
-pub waits-place : (D : ℕ) (ls : Lists) (st : List ℕ) → Waits D ls st → (z : ℕ) → Memᴰ z st → z < length ls
-waits-place D ls st p z m = ltor (ltb z (length ls)) refl
+pub waits_place : (D : ℕ) (ls : Lists) (st : List ℕ) → Waits D ls st → (z : ℕ) → Memᴰ z st → z < length ls
+waits_place D ls st p z m = ltor (ltb z (length ls)) refl
   where
     ltor : (t : Bool) → ltb z (length ls) ≡ t → z < length ls
     ltor true e = ltb-true _ _ e
-    ltor false e = absurd (omega (arith, waits-over D ls st p z m, ap length (past-list ls z (ltb-false _ _ e))))
+    ltor false e = absurd (omega (arith, waits_over D ls st p z m, ap length (past_list ls z (ltb-false _ _ e))))
 
 -- ---- no more places wait than there are
 -- how often the places below k wait
@@ -126,65 +126,65 @@ abbrev total : ℕ → List ℕ → ℕ
 total zero st = 0
 total (suc k) st = count k st + total k st
 
-total-none : (k : ℕ) → total k [] ≡ 0
-total-none zero = refl
-total-none (suc k) = omega (arith, total-none k)
+total_none : (k : ℕ) → total k [] ≡ 0
+total_none zero = refl
+total_none (suc k) = omega (arith, total_none k)
 
 -- how many of the places below k are y
 abbrev alone : ℕ → ℕ → ℕ
 alone zero y = 0
 alone (suc k) y = same k y + alone k y
 
-total-more : (k y : ℕ) (st : List ℕ) → total k (y ∷ st) ≡ alone k y + total k st
-total-more zero y st = refl
-total-more (suc k) y st = omega (arith, total-more k y st)
+total_more : (k y : ℕ) (st : List ℕ) → total k (y ∷ st) ≡ alone k y + total k st
+total_more zero y st = refl
+total_more (suc k) y st = omega (arith, total_more k y st)
 
-alone-far : (k y : ℕ) → k ≤ y → alone k y ≡ 0
-alone-far zero y h = refl
-alone-far (suc k) y h = omega (arith, same-ne k y (omega arith), alone-far k y (omega arith))
+alone_far : (k y : ℕ) → k ≤ y → alone k y ≡ 0
+alone_far zero y h = refl
+alone_far (suc k) y h = omega (arith, same_ne k y (omega arith), alone_far k y (omega arith))
 
-alone-one : (k y : ℕ) → y < k → alone k y ≡ 1
-alone-one zero y h = absurd (omega arith)
-alone-one (suc k) y h = elim (ℕ_discrete k y) [
-  | yes e ↦ omega (arith, same-eq k y e, alone-far k y (omega arith))
-  | no n ↦ omega (arith, same-ne k y n, alone-one k y (omega arith))
+alone_one : (k y : ℕ) → y < k → alone k y ≡ 1
+alone_one zero y h = absurd (omega arith)
+alone_one (suc k) y h = elim (ℕ_discrete k y) [
+  | yes e ↦ omega (arith, same_eq k y e, alone_far k y (omega arith))
+  | no n ↦ omega (arith, same_ne k y n, alone_one k y (omega arith))
 ]
 
-total-all : (n : ℕ) (st : List ℕ) → ((z : ℕ) → Memᴰ z st → z < n) → total n st ≡ length st
-total-all n [] h = total-none n
-total-all n (y ∷ st) h = omega (arith, total-more n y st, alone-one n y (h y (Memᴰ.head refl)), total-all n st (λ z m. h z (Memᴰ.tail m)))
+total_all : (n : ℕ) (st : List ℕ) → ((z : ℕ) → Memᴰ z st → z < n) → total n st ≡ length st
+total_all n [] h = total_none n
+total_all n (y ∷ st) h = omega (arith, total_more n y st, alone_one n y (h y (Memᴰ.head refl)), total_all n st (λ z m. h z (Memᴰ.tail m)))
 
-total-le : (k : ℕ) (st : List ℕ) → ((z : ℕ) → count z st ≤ 1) → total k st ≤ k
-total-le zero st h = omega arith
-total-le (suc k) st h = omega (arith, h k, total-le k st h)
+total_le : (k : ℕ) (st : List ℕ) → ((z : ℕ) → count z st ≤ 1) → total k st ≤ k
+total_le zero st h = omega arith
+total_le (suc k) st h = omega (arith, h k, total_le k st h)
 
-total-less : (k : ℕ) (st : List ℕ) → ((z : ℕ) → count z st ≤ 1) → (z : ℕ) → z < k → count z st ≡ 0 → total k st < k
-total-less zero st h z l e = absurd (omega arith)
-total-less (suc k) st h z l e = elim (ℕ_discrete k z) [
-  | yes f ↦ omega (arith, ap (λ (y : ℕ). count y st) f, total-le k st h)
-  | no n ↦ omega (arith, h k, total-less k st h z (omega arith) e)
+total_less : (k : ℕ) (st : List ℕ) → ((z : ℕ) → count z st ≤ 1) → (z : ℕ) → z < k → count z st ≡ 0 → total k st < k
+total_less zero st h z l e = absurd (omega arith)
+total_less (suc k) st h z l e = elim (ℕ_discrete k z) [
+  | yes f ↦ omega (arith, ap (λ (y : ℕ). count y st) f, total_le k st h)
+  | no n ↦ omega (arith, h k, total_less k st h z (omega arith) e)
 ]
 
-pub waits-fit : (D n : ℕ) (ls : Lists) (st : List ℕ) → length ls ≡ n → Waits D ls st → length st ≤ n
-waits-fit D n ls st e p =
-    omega (arith, total-all n st (λ z m. omega (arith, waits-place D ls st p z m)), total-le n st (λ z. omega (arith, p z)))
+pub waits_fit : (D n : ℕ) (ls : Lists) (st : List ℕ) → length ls ≡ n → Waits D ls st → length st ≤ n
+waits_fit D n ls st e p =
+    omega (arith, total_all n st (λ z m. omega (arith, waits_place D ls st p z m)), total_le n st (λ z. omega (arith, p z)))
 
 -- one fewer where some place's list is at most D, as the emptied one's
-pub waits-room : (D n : ℕ) (ls : Lists) (st : List ℕ) → length ls ≡ n → Waits D ls st → (z : ℕ) → z < n → length (list ls z) ≤ D → length st < n
-waits-room D n ls st e p z l h =
+pub waits_room : (D n : ℕ) (ls : Lists) (st : List ℕ) → length ls ≡ n → Waits D ls st → (z : ℕ) → z < n → length (list ls z) ≤ D → length st < n
+waits_room D n ls st e p z l h =
     omega (
       arith,
-      total-all n st (λ y m. omega (arith, waits-place D ls st p y m)),
-      total-less n st (λ y. omega (arith, p y)) z l (omega (arith, p z)),
+      total_all n st (λ y m. omega (arith, waits_place D ls st p y m)),
+      total_less n st (λ y. omega (arith, p y)) z l (omega (arith, p z)),
     )
 
 -- a place whose length becomes D + 1 finds room among the n words
-pub hand-room : (D w n : ℕ) (c : Cell) (k : Work) → length k.lists ≡ n → c.target < n → Waits D k.lists k.waiting
+pub hand_room : (D w n : ℕ) (c : Cell) (k : Work) → length k.lists ≡ n → c.target < n → Waits D k.lists k.waiting
     → over D (hand D w c k).lists c.target ≡ true → length k.waiting < n
-hand-room D w n c k e h p t =
+hand_room D w n c k e h p t =
     let f : (hand D w c k).waiting ≡ c.target ∷ k.waiting = ap (λ (b : Bool). put b c.target k.waiting) t in
     omega (
       arith,
       ap length f,
-      waits-fit D n (hand D w c k).lists (hand D w c k).waiting (push-length k.lists c.target (aimed c w) ∙ e) (hand-waits D w c k (omega arith) p),
+      waits_fit D n (hand D w c k).lists (hand D w c k).waiting (push_length k.lists c.target (aimed c w) ∙ e) (hand_waits D w c k (omega arith) p),
     )

@@ -1,7 +1,7 @@
 -- Document 01, "What each call does" and "Refusal numbers": the calls on a day.
 use Rattle.std.specs.Prelude.{ℕ, ◌+◌, ◌-◌, ◌*◌, ◌/◌, Bool, true, false, not, ◌||◌, ◌&&◌, List, [], ◌∷◌, eqb, ltb, leb, length, get_or, set}
 use Rattle.std.proofs.Math.Option.{Option, none, some}
-use Rattle.terms.specs.Run.{no_run, badName, sameRun}
+use Rattle.terms.specs.Run.{no_run, bad_name, same_run}
 use Rattle.terms.specs.declared.run.Run.{Run}
 use Rattle.terms.specs.declared.refusal.Refusal.{Refusal}
 use Rattle.terms.specs.declared.refusal.Refusal.TheVariants.{BadName, SameRun, NotOpen, Already, NoLink, NoRoom, TooDense, Touched, BadSet}
@@ -9,11 +9,11 @@ use Rattle.terms.specs.declared.refusal.Answer.{Answer}
 use Rattle.terms.specs.declared.refusal.Answer.TheVariants.{Done, Refused}
 use Rattle.meaning.specs.Cells.{Cell, Lists, list, push, without, seek, holds, sum, links, same}
 use Rattle.meaning.specs.Turning.{over, Ending, settled, dense, turning}
-use Rattle.meaning.specs.Day.{Day, run_of, place_of, isOpen, lowest}
+use Rattle.meaning.specs.Day.{Day, run_of, place_of, is_open, lowest}
 
 -- the single calls on a sound store; empty makes a new one
 pub data Call : Type 0 where
-  openRun closeRun : Run → Call
+  open_run close_run : Run → Call
   link unlink ask : Run → Run → Call
   reading : List ℕ → Call
 
@@ -45,40 +45,40 @@ rising (p ∷ []) = true
 rising (p ∷ q ∷ ps) = ltb p q && rising (q ∷ ps)
 
 -- fewer than two places, or not strictly rising
-abbrev pub badSet : List ℕ → Bool
-badSet ps = ltb (length ps) 2 || not (rising ps)
+abbrev pub bad_set : List ℕ → Bool
+bad_set ps = ltb (length ps) 2 || not (rising ps)
 
 -- a place is open; a place number of n or above isn't
-abbrev pub openPlace : Day → ℕ → Bool
-openPlace s p = ltb p (length s.runs) && not (eqb (run_of s p).line 0)
+abbrev pub open_place : Day → ℕ → Bool
+open_place s p = ltb p (length s.runs) && not (eqb (run_of s p).line 0)
 
 -- every place of a set is open
-abbrev pub allOpen : Day → List ℕ → Bool
-allOpen s [] = true
-allOpen s (p ∷ ps) = openPlace s p && allOpen s ps
+abbrev pub all_open : Day → List ℕ → Bool
+all_open s [] = true
+all_open s (p ∷ ps) = open_place s p && all_open s ps
 
 -- the tests of a call with their refusals, in the order in which they are made
 abbrev pub Tests : Type 0
 Tests = List (Bool × Refusal)
 
 -- two named runs: 3, 4, 5
-abbrev pub pairTests : Day → Run → Run → Tests → Tests
-pairTests s p q ts =
-    (badName p || badName q, BadName) ∷ (sameRun p q, SameRun) ∷ (not (isOpen s p) || not (isOpen s q), NotOpen) ∷ ts
+abbrev pub pair_tests : Day → Run → Run → Tests → Tests
+pair_tests s p q ts =
+    (bad_name p || bad_name q, BadName) ∷ (same_run p q, SameRun) ∷ (not (is_open s p) || not (is_open s q), NotOpen) ∷ ts
 
 -- the rows that concern each call, in number order, but 14 before 5
 abbrev pub tests : Day → Call → Tests
-tests s (openRun p) = (badName p, BadName) ∷ (isOpen s p, Already) ∷ (leb (length s.runs) (lowest s), NoRoom) ∷ []
-tests s (closeRun p) = (badName p, BadName) ∷ (not (isOpen s p), NotOpen) ∷ (touched s (place_of s p), Touched) ∷ []
-tests s (link p q) = pairTests s p q ((linked s (place_of s p) (place_of s q), Already) ∷ (eqb (length s.free) 0, NoRoom) ∷ [])
-tests s (unlink p q) = pairTests s p q ((not (linked s (place_of s p) (place_of s q)), NoLink) ∷ [])
-tests s (ask p q) = pairTests s p q []
-tests s (reading ps) = (badSet ps, BadSet) ∷ (not (allOpen s ps), NotOpen) ∷ []
+tests s (open_run p) = (bad_name p, BadName) ∷ (is_open s p, Already) ∷ (leb (length s.runs) (lowest s), NoRoom) ∷ []
+tests s (close_run p) = (bad_name p, BadName) ∷ (not (is_open s p), NotOpen) ∷ (touched s (place_of s p), Touched) ∷ []
+tests s (link p q) = pair_tests s p q ((linked s (place_of s p) (place_of s q), Already) ∷ (eqb (length s.free) 0, NoRoom) ∷ [])
+tests s (unlink p q) = pair_tests s p q ((not (linked s (place_of s p) (place_of s q)), NoLink) ∷ [])
+tests s (ask p q) = pair_tests s p q []
+tests s (reading ps) = (bad_set ps, BadSet) ∷ (not (all_open s ps), NotOpen) ∷ []
 
 -- the first test that holds gives the refusal
-abbrev pub firstRefusal : Tests → Option Refusal
-firstRefusal [] = none
-firstRefusal (t ∷ ts) = elim t.0 [ true ↦ some t.1 | false ↦ firstRefusal ts ]
+abbrev pub first_refusal : Tests → Option Refusal
+first_refusal [] = none
+first_refusal (t ∷ ts) = elim t.0 [ true ↦ some t.1 | false ↦ first_refusal ts ]
 
 -- open takes the lowest free place and returns it; close sets the place's line and number to 0
 abbrev pub rename : Day → ℕ → Run → Day
@@ -100,9 +100,9 @@ link_in D s u v i fs =
     ]
 
 -- no cell is free: the test for it stands before, so this answers nobody
-abbrev pub doLink : ℕ → Day → ℕ → ℕ → List ℕ → Outcome
-doLink D s u v [] = refused NoRoom s
-doLink D s u v (i ∷ fs) = link_in D s u v i fs
+abbrev pub do_link : ℕ → Day → ℕ → ℕ → List ℕ → Outcome
+do_link D s u v [] = refused NoRoom s
+do_link D s u v (i ∷ fs) = link_in D s u v i fs
 
 -- the cell leaves u's list, the others keep their order, and it goes to the front of the free list
 abbrev pub cut : Day → ℕ → ℕ → Day
@@ -112,8 +112,8 @@ cut s u v =
     record { runs = s.runs; lists = set s.lists u (without k l); free = (get_or l k (record { index = 0; target = 0 })).index ∷ s.free }
 
 -- it leaves the list that has it
-abbrev pub doUnlink : Day → ℕ → ℕ → Outcome
-doUnlink s u v = elim (holds v (list s.lists u)) [ true ↦ done 0 (cut s u v) | false ↦ done 0 (cut s v u) ]
+abbrev pub do_unlink : Day → ℕ → ℕ → Outcome
+do_unlink s u v = elim (holds v (list s.lists u)) [ true ↦ done 0 (cut s u v) | false ↦ done 0 (cut s v u) ]
 
 -- ask returns 1 if linked, else 0
 abbrev pub yes1 : Bool → ℕ
@@ -131,10 +131,10 @@ inside s ps = sum (λ v c. in_set ps v * in_set ps c.target) s.lists
 
 -- what a call does where no test holds
 abbrev pub act : ℕ → Day → Call → Outcome
-act D s (openRun p) = done (lowest s) (rename s (lowest s) p)
-act D s (closeRun p) = done 0 (rename s (place_of s p) no_run)
-act D s (link p q) = doLink D s (place_of s p) (place_of s q) s.free
-act D s (unlink p q) = doUnlink s (place_of s p) (place_of s q)
+act D s (open_run p) = done (lowest s) (rename s (lowest s) p)
+act D s (close_run p) = done 0 (rename s (place_of s p) no_run)
+act D s (link p q) = do_link D s (place_of s p) (place_of s q) s.free
+act D s (unlink p q) = do_unlink s (place_of s p) (place_of s q)
 act D s (ask p q) = done (yes1 (linked s (place_of s p) (place_of s q))) s
 act D s (reading ps) = done (inside s ps / (length ps - 1)) s
 
@@ -145,4 +145,4 @@ unless (some why) s o = refused why s
 
 -- a call on a day
 abbrev pub call : ℕ → Day → Call → Outcome
-call D s q = unless (firstRefusal (tests s q)) s (act D s q)
+call D s q = unless (first_refusal (tests s q)) s (act D s q)

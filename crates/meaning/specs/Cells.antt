@@ -49,14 +49,14 @@ abbrev pub Weight : Type 0
 Weight = ℕ → Cell → ℕ
 
 -- the sum over the links of one list
-abbrev pub rowSum : (Cell → ℕ) → List Cell → ℕ
-rowSum g [] = 0
-rowSum g (c ∷ l) = g c + rowSum g l
+abbrev pub row_sum : (Cell → ℕ) → List Cell → ℕ
+row_sum g [] = 0
+row_sum g (c ∷ l) = g c + row_sum g l
 
 -- the sum over all links
 abbrev pub sum : Weight → Lists → ℕ
 sum f [] = 0
-sum f (l ∷ ls) = rowSum (f 0) l + sum (λ v. f (suc v)) ls
+sum f (l ∷ ls) = row_sum (f 0) l + sum (λ v. f (suc v)) ls
 
 -- the number of links
 abbrev pub links : Lists → ℕ

@@ -1,6 +1,6 @@
 -- What a table holds: the runs by place, the lists of cells, the free cells; and the table that empty writes.
 use Rattle.std.specs.Prelude.{ℕ, zero, suc, Bool, List, [], ◌∷◌, ◌++◌, map, eqb, ltb, length, get_or, replicate}
-use Rattle.terms.specs.Run.{no_run, sameRun}
+use Rattle.terms.specs.Run.{no_run, same_run}
 use Rattle.terms.specs.declared.run.Run.{Run}
 use Rattle.meaning.specs.Table.{NONE, line_of, number_of, head_of, length_of, target_of, next_of}
 use Rattle.meaning.specs.Cells.{Cell, Lists, first}
@@ -22,11 +22,11 @@ run_of s v = get_or s.runs v no_run
 
 -- the place that has a run's line and trip number, n where none has
 abbrev pub place_of : Day → Run → ℕ
-place_of s p = first (sameRun p) s.runs
+place_of s p = first (same_run p) s.runs
 
 -- a run is open where it has a place
-abbrev pub isOpen : Day → Run → Bool
-isOpen s p = ltb (place_of s p) (length s.runs)
+abbrev pub is_open : Day → Run → Bool
+is_open s p = ltb (place_of s p) (length s.runs)
 
 -- the lowest free place, n where none is free
 abbrev pub lowest : Day → ℕ
@@ -43,8 +43,8 @@ module _ (n C : ℕ) (w : List ℕ) where
   cells_of v = cells (length_of n C w v) (head_of n C w v)
 
   -- the day that a table holds
-  abbrev pub dayOf : Day
-  dayOf = record {
+  abbrev pub day_of : Day
+  day_of = record {
     runs = each n (λ v. record { line = line_of n C w v; trip = number_of n C w v });
     lists = each n cells_of;
     free = map (λ c. c.index) (cells_of n);
@@ -56,12 +56,12 @@ unfoldable pub nexts : ℕ → ℕ → List ℕ
 nexts i zero = NONE ∷ []
 nexts i (suc k) = suc i ∷ nexts (suc i) k
 
-unfoldable pub emptyTable : ℕ → ℕ → List ℕ
-emptyTable n zero = []
-emptyTable n (suc c) =
+unfoldable pub empty_table : ℕ → ℕ → List ℕ
+empty_table n zero = []
+empty_table n (suc c) =
     replicate n 0 ++ replicate n 0 ++ (replicate n NONE ++ 0 ∷ []) ++ (replicate n 0 ++ suc c ∷ [])
     ++ replicate (suc c) n ++ replicate (suc c) NONE ++ nexts 0 c
 
 -- the day with no run and no link
-abbrev pub emptyDay : ℕ → ℕ → Day
-emptyDay n C = record { runs = replicate n no_run; lists = replicate n []; free = each C (λ i. i) }
+abbrev pub empty_day : ℕ → ℕ → Day
+empty_day n C = record { runs = replicate n no_run; lists = replicate n []; free = each C (λ i. i) }

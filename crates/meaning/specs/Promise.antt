@@ -1,28 +1,28 @@
 -- What every public call promises, for all numbers and tables handed in: its answer and each table as it leaves it.
 use Rattle.std.specs.Prelude.{ℕ, ◌*◌, ◌/◌, ◌≤◌, Bool, true, false, List, ◌≡◌, length, replicate}
 use Rattle.std.proofs.Math.Option.{Option, none, some}
-use Rattle.terms.specs.Size.{InRoom, store_words, waitingWords, streamMost, totalMost}
+use Rattle.terms.specs.Size.{InRoom, store_words, waiting_words, stream_most, total_most}
 use Rattle.terms.specs.Refusal.{number_of}
 use Rattle.terms.specs.declared.run.Run.{Run}
 use Rattle.terms.specs.declared.refusal.Answer.{Answer}
 use Rattle.terms.specs.declared.refusal.Answer.TheVariants.{Done, Refused}
 use Rattle.terms.specs.declared.refusal.Refusal.{Refusal}
 use Rattle.terms.specs.declared.refusal.Refusal.TheVariants.{Sizes, Unsound}
-use Rattle.record.specs.Bytes.{recordBytes}
+use Rattle.record.specs.Bytes.{record_bytes}
 use Rattle.meaning.specs.Soundness.{Sized, Sound}
-use Rattle.meaning.specs.Day.{Day, dayOf, emptyTable}
+use Rattle.meaning.specs.Day.{Day, day_of, empty_table}
 use Rattle.meaning.specs.Calls.{Call, link, call}
-use Rattle.meaning.specs.Stream.{recordsOf, Progress, carryAll}
+use Rattle.meaning.specs.Stream.{records_of, Progress, carry_all}
 
 -- the table is sound and holds the day; that day alone determines its words
 pub record Holds (n C D : ℕ) (w : List ℕ) (s : Day) : Type 0 where
   pub sound : Sound n C D w
-  pub day : dayOf n C w ≡ s
+  pub day : day_of n C w ≡ s
 
 -- a call on a sound table: the answer and the day are those of the call on the day that it holds
 pub record Carries (n C D : ℕ) (q : Call) (w : List ℕ) (a : Answer) (w' : List ℕ) : Type 0 where
-  pub answer : a ≡ (call D (dayOf n C w) q).answer
-  pub holds : Holds n C D w' (call D (dayOf n C w) q).after
+  pub answer : a ≡ (call D (day_of n C w) q).answer
+  pub holds : Holds n C D w' (call D (day_of n C w) q).after
 
 -- a call that takes the store alone: refusals 1 and 2 leave it, else it carries the call out
 pub record Promise (n C D : ℕ) (q : Call) (w : List ℕ) (a : Answer) (w' : List ℕ) : Type 0 where
@@ -33,28 +33,28 @@ pub record Promise (n C D : ℕ) (q : Call) (w : List ℕ) (a : Answer) (w' : Li
 -- empty takes n, C and the store: refusal 1, or the words that document 01 lists
 pub record EmptyPromise (n C : ℕ) (w : List ℕ) (a : Answer) (w' : List ℕ) : Type 0 where
   pub sizes : (InRoom n C × (length w ≡ store_words n C) → ⊥) → (a ≡ Refused Sizes) × (w' ≡ w)
-  pub done : InRoom n C → length w ≡ store_words n C → (a ≡ Done 0) × (w' ≡ emptyTable n C)
+  pub done : InRoom n C → length w ≡ store_words n C → (a ≡ Done 0) × (w' ≡ empty_table n C)
 
 -- link and stream also take the spare, as long as the store, and the waiting table of n words
 pub record Lent (n C D : ℕ) (w spare waiting : List ℕ) : Type 0 where
   pub sized : Sized n C D w
-  pub spare-long : length spare ≡ store_words n C
-  pub waiting-long : length waiting ≡ waitingWords n
+  pub spare_long : length spare ≡ store_words n C
+  pub waiting_long : length waiting ≡ waiting_words n
 
 -- after a link that began turning the spare holds the store as at entry and every word of waiting is 0; else both stay
-abbrev pub spareAfter : Bool → List ℕ → List ℕ → List ℕ
-spareAfter true w spare = w
-spareAfter false w spare = spare
+abbrev pub spare_after : Bool → List ℕ → List ℕ → List ℕ
+spare_after true w spare = w
+spare_after false w spare = spare
 
-abbrev pub waitingAfter : Bool → ℕ → List ℕ → List ℕ
-waitingAfter true n waiting = replicate n 0
-waitingAfter false n waiting = waiting
+abbrev pub waiting_after : Bool → ℕ → List ℕ → List ℕ
+waiting_after true n waiting = replicate n 0
+waiting_after false n waiting = waiting
 
 -- a link on a sound table: the call, and what it leaves of spare and waiting
 pub record LinkCarries (n C D : ℕ) (p q : Run) (w spare waiting : List ℕ) (a : Answer) (w' spare' waiting' : List ℕ) : Type 0 where
   pub carries : Carries n C D (link p q) w a w'
-  pub spared : spare' ≡ spareAfter (call D (dayOf n C w) (link p q)).began w spare
-  pub waited : waiting' ≡ waitingAfter (call D (dayOf n C w) (link p q)).began n waiting
+  pub spared : spare' ≡ spare_after (call D (day_of n C w) (link p q)).began w spare
+  pub waited : waiting' ≡ waiting_after (call D (day_of n C w) (link p q)).began n waiting
 
 -- link: refusal 1, refusal 2, or the call on the day
 pub record LinkPromise (n C D : ℕ) (p q : Run) (w spare waiting : List ℕ) (a : Answer) (w' spare' waiting' : List ℕ) : Type 0 where
@@ -74,10 +74,10 @@ pub record Tables : Type 0 where
 -- refusal 1 for a stream: also a stream too long, an answer table shorter than two words a record, a total above 2^62
 pub record StreamLent (n C D : ℕ) (bytes : List ℕ) (t : Tables) : Type 0 where
   pub lent : Lent n C D t.store t.spare t.waiting
-  pub short : length bytes ≤ streamMost
-  pub answers-long : 2 * (length bytes / recordBytes) ≤ length t.answers
-  pub accepted-most : t.accepted ≤ totalMost
-  pub reversals-most : t.reversals ≤ totalMost
+  pub short : length bytes ≤ stream_most
+  pub answers_long : 2 * (length bytes / record_bytes) ≤ length t.answers
+  pub accepted_most : t.accepted ≤ total_most
+  pub reversals_most : t.reversals ≤ total_most
 
 -- what a stream returns: the refusal that stopped it, none at the end of the bytes, and the number of records carried out
 pub record Result : Type 0 where
@@ -85,15 +85,15 @@ pub record Result : Type 0 where
   pub carried : ℕ
 
 -- the refusal that stopped a stream as a number, 0 at the end of the bytes
-abbrev pub stopNumber : Option Refusal → ℕ
-stopNumber none = 0
-stopNumber (some why) = number_of why
+abbrev pub stop_number : Option Refusal → ℕ
+stop_number none = 0
+stop_number (some why) = number_of why
 
 -- a stream on a sound table, from the day that it holds
 abbrev pub progress : ℕ → ℕ → ℕ → List ℕ → Tables → Progress
 progress n C D bytes t =
-    carryAll D (recordsOf bytes).records
-    (record { day = dayOf n C t.store; answers = t.answers; carried = 0; accepted = t.accepted; reversals = t.reversals; turned = none })
+    carry_all D (records_of bytes).records
+    (record { day = day_of n C t.store; answers = t.answers; carried = 0; accepted = t.accepted; reversals = t.reversals; turned = none })
 
 -- spare and waiting hold what the last link that began turning left, and stay if none did
 abbrev pub SpareIs : ℕ → ℕ → ℕ → Option Day → List ℕ → List ℕ → Type 0
@@ -101,17 +101,17 @@ SpareIs n C D none spare spare' = spare' ≡ spare
 SpareIs n C D (some s) spare spare' = Holds n C D spare' s
 
 -- every word of waiting is 0 after a link that began turning
-abbrev pub waitingThen : ℕ → Option Day → List ℕ → List ℕ
-waitingThen n none waiting = waiting
-waitingThen n (some s) waiting = replicate n 0
+abbrev pub waiting_then : ℕ → Option Day → List ℕ → List ℕ
+waiting_then n none waiting = waiting
+waiting_then n (some s) waiting = replicate n 0
 
 -- a stream on a sound table: what it returns, and every table and total as its records leave them
 pub record StreamCarries (n C D : ℕ) (bytes : List ℕ) (t : Tables) (r : Result) (t' : Tables) : Type 0 where
-  pub stop : r.stop ≡ (recordsOf bytes).stop
+  pub stop : r.stop ≡ (records_of bytes).stop
   pub carried : r.carried ≡ (progress n C D bytes t).carried
   pub holds : Holds n C D t'.store (progress n C D bytes t).day
   pub spared : SpareIs n C D (progress n C D bytes t).turned t.spare t'.spare
-  pub waited : t'.waiting ≡ waitingThen n (progress n C D bytes t).turned t.waiting
+  pub waited : t'.waiting ≡ waiting_then n (progress n C D bytes t).turned t.waiting
   pub answered : t'.answers ≡ (progress n C D bytes t).answers
   pub accepted : t'.accepted ≡ (progress n C D bytes t).accepted
   pub reversals : t'.reversals ≡ (progress n C D bytes t).reversals

@@ -1,12 +1,12 @@
 -- Document 01, "Day records": a stream is its records' single calls in turn.
 use Rattle.std.specs.Prelude.{ℕ, zero, suc, ◌+◌, ◌*◌, Bool, true, false, List, [], ◌∷◌, length, drop}
 use Rattle.std.proofs.Math.Option.{Option, none, some}
-use Rattle.terms.specs.Refusal.{refusalOf, value_of}
+use Rattle.terms.specs.Refusal.{refusal_of, value_of}
 use Rattle.terms.specs.declared.run.Run.{Run}
 use Rattle.terms.specs.declared.refusal.Refusal.{Refusal}
 use Rattle.terms.specs.declared.refusal.Answer.{Answer}
 use Rattle.terms.specs.declared.refusal.Answer.TheVariants.{Done, Refused}
-use Rattle.record.specs.Bytes.{recordBytes}
+use Rattle.record.specs.Bytes.{record_bytes}
 use Rattle.record.specs.Reading.{reading_of}
 use Rattle.record.specs.declared.Kind.{Kind}
 use Rattle.record.specs.declared.Kind.TheVariants.{Open, Close, Link, Unlink, Ask}
@@ -15,19 +15,19 @@ use Rattle.record.specs.declared.reader.Reading.{Reading}
 use Rattle.record.specs.declared.reader.Reading.TheVariants as reading
 use Rattle.meaning.specs.Table.{written}
 use Rattle.meaning.specs.Day.{Day}
-use Rattle.meaning.specs.Calls.{Call, openRun, closeRun, link, unlink, ask, reading as readSet, Outcome, call, yes1}
+use Rattle.meaning.specs.Calls.{Call, open_run, close_run, link, unlink, ask, reading as read_set, Outcome, call, yes1}
 
 -- the call that a record asks for
-abbrev pub asksFor : Kind → Run → Run → Call
-asksFor Open a b = openRun a
-asksFor Close a b = closeRun a
-asksFor Link a b = link a b
-asksFor Unlink a b = unlink a b
-asksFor Ask a b = ask a b
+abbrev pub asks_for : Kind → Run → Run → Call
+asks_for Open a b = open_run a
+asks_for Close a b = close_run a
+asks_for Link a b = link a b
+asks_for Unlink a b = unlink a b
+asks_for Ask a b = ask a b
 
 -- with the runs that it names
 abbrev pub call_of : Record → Call
-call_of r = asksFor r.kind r.first r.second
+call_of r = asks_for r.kind r.first r.second
 
 -- the records of a stream in order, and the refusal that stops it, if any
 pub record Day-records : Type 0 where
@@ -43,11 +43,11 @@ read_on (reading.Refused why) rest = record { records = []; stop = some why }
 -- each is read from the rest of the stream that starts after the one before; k is at least the number of bytes
 unfoldable pub read_all : ℕ → List ℕ → Day-records
 read_all zero s = record { records = []; stop = none }
-read_all (suc k) s = read_on (reading_of s) (read_all k (drop recordBytes s))
+read_all (suc k) s = read_on (reading_of s) (read_all k (drop record_bytes s))
 
 -- the records of all the bytes
-abbrev pub recordsOf : List ℕ → Day-records
-recordsOf s = read_all (length s) s
+abbrev pub records_of : List ℕ → Day-records
+records_of s = read_all (length s) s
 
 -- an accepted link counts 1, and the reversals it answers
 abbrev pub accepts : Answer → Bool
@@ -55,20 +55,20 @@ accepts (Done k) = true
 accepts (Refused why) = false
 
 abbrev pub taken : Call → Answer → ℕ
-taken (openRun x) a = 0
-taken (closeRun x) a = 0
+taken (open_run x) a = 0
+taken (close_run x) a = 0
 taken (link x y) a = yes1 (accepts a)
 taken (unlink x y) a = 0
 taken (ask x y) a = 0
-taken (readSet ps) a = 0
+taken (read_set ps) a = 0
 
 abbrev pub reversed : Call → Answer → ℕ
-reversed (openRun x) a = 0
-reversed (closeRun x) a = 0
+reversed (open_run x) a = 0
+reversed (close_run x) a = 0
 reversed (link x y) a = value_of a
 reversed (unlink x y) a = 0
 reversed (ask x y) a = 0
-reversed (readSet ps) a = 0
+reversed (read_set ps) a = 0
 
 -- how far a stream is: the day, the answer table, the records carried out, the totals, and the day as at entry of the last link
 -- that began turning
@@ -87,7 +87,7 @@ latest false s before = before
 
 -- the two answer words of the i-th record: refusal and number
 abbrev pub answered : List ℕ → ℕ → Answer → List ℕ
-answered ws i a = written (written ws (2 * i) (refusalOf a)) (2 * i + 1) (value_of a)
+answered ws i a = written (written ws (2 * i) (refusal_of a)) (2 * i + 1) (value_of a)
 
 -- a record carried out writes its answer words and brings the totals forward
 abbrev pub carry : ℕ → Progress → Record → Progress
@@ -103,6 +103,6 @@ carry D p r =
     }
 
 -- the records in order; one refused with 3 to 10 does not stop it
-unfoldable pub carryAll : ℕ → List Record → Progress → Progress
-carryAll D [] p = p
-carryAll D (r ∷ rs) p = carryAll D rs (carry D p r)
+unfoldable pub carry_all : ℕ → List Record → Progress → Progress
+carry_all D [] p = p
+carry_all D (r ∷ rs) p = carry_all D rs (carry D p r)

@@ -21,17 +21,17 @@ module _ (n C : ℕ) where
   abbrev pub number_at : ℕ → ℕ
   number_at v = n + v
 
-  abbrev pub headAt : ℕ → ℕ
-  headAt v = 2 * n + v
+  abbrev pub head_at : ℕ → ℕ
+  head_at v = 2 * n + v
 
   abbrev pub length_at : ℕ → ℕ
   length_at v = 3 * n + 1 + v
 
-  abbrev pub ownerAt : ℕ → ℕ
-  ownerAt i = 4 * n + 2 + i
+  abbrev pub owner_at : ℕ → ℕ
+  owner_at i = 4 * n + 2 + i
 
-  abbrev pub targetAt : ℕ → ℕ
-  targetAt i = 4 * n + 2 + C + i
+  abbrev pub target_at : ℕ → ℕ
+  target_at i = 4 * n + 2 + C + i
 
   abbrev pub next_at : ℕ → ℕ
   next_at i = 4 * n + 2 + 2 * C + i
@@ -44,16 +44,16 @@ module _ (n C : ℕ) where
     number_of v = word w (number_at v)
 
     abbrev pub head_of : ℕ → ℕ
-    head_of v = word w (headAt v)
+    head_of v = word w (head_at v)
 
     abbrev pub length_of : ℕ → ℕ
     length_of v = word w (length_at v)
 
-    abbrev pub ownerOf : ℕ → ℕ
-    ownerOf i = word w (ownerAt i)
+    abbrev pub owner_of : ℕ → ℕ
+    owner_of i = word w (owner_at i)
 
     abbrev pub target_of : ℕ → ℕ
-    target_of i = word w (targetAt i)
+    target_of i = word w (target_at i)
 
     abbrev pub next_of : ℕ → ℕ
     next_of i = word w (next_at i)

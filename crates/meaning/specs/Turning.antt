@@ -23,13 +23,13 @@ hand D w c k =
     record { lists = ls; waiting = put (over D ls c.target) c.target k.waiting }
 
 -- the former cells are handled front to back
-unfoldable pub handAll : ℕ → ℕ → List Cell → Work → Work
-handAll D w [] k = k
-handAll D w (c ∷ cs) k = handAll D w cs (hand D w c k)
+unfoldable pub hand_all : ℕ → ℕ → List Cell → Work → Work
+hand_all D w [] k = k
+hand_all D w (c ∷ cs) k = hand_all D w cs (hand D w c k)
 
 -- w's list is emptied, and its former cells are handled
 abbrev pub turn : ℕ → ℕ → Lists → List ℕ → Work
-turn D w ls st = handAll D w (list ls w) (record { lists = bare ls w; waiting = st })
+turn D w ls st = hand_all D w (list ls w) (record { lists = bare ls w; waiting = st })
 
 -- how turning ends: the lists and the number of reversals, or too dense
 pub data Ending : Type 0 where

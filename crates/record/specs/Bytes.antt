@@ -1,6 +1,6 @@
 -- Document 01, "Day records": which bytes a record is.
 use Rattle.std.specs.Prelude.{ℕ, ◌+◌, ◌*◌, ◌/◌, ◌%◌, ◌^◌, ◌≤◌, ◌<◌, Bool, cond, ◌&&◌, List, [], ◌∷◌, ◌++◌, eqb, get_or}
-use Rattle.terms.specs.Run.{lineMost}
+use Rattle.terms.specs.Run.{line_most}
 use Rattle.terms.specs.declared.run.Run.{Run}
 use Rattle.record.specs.declared.Kind.{Kind}
 use Rattle.record.specs.declared.Kind.TheVariants.{Open, Close, Link, Unlink, Ask}
@@ -9,8 +9,8 @@ use Rattle.record.specs.declared.reader.KindByte.{KindByte}
 use Rattle.record.specs.declared.reader.KindByte.TheVariants.{Known, Unknown}
 
 -- fifteen bytes
-abbrev pub recordBytes : ℕ
-recordBytes = 15
+abbrev pub record_bytes : ℕ
+record_bytes = 15
 
 -- where the kind and each run begin: after the mark, after the kind, after the first run
 abbrev pub kind_at : ℕ
@@ -19,35 +19,35 @@ kind_at = 2
 abbrev pub first_at : ℕ
 first_at = 3
 
-abbrev pub secondAt : ℕ
-secondAt = 9
+abbrev pub second_at : ℕ
+second_at = 9
 
 -- the two-byte mark 0x52 0x4E
 abbrev pub mark : List ℕ
 mark = 0x52 ∷ 0x4E ∷ []
 
 -- kinds: 1 open, 2 close, 3 link, 4 unlink, 5 ask
-abbrev pub kindByte : Kind → ℕ
-kindByte Open = 1
-kindByte Close = 2
-kindByte Link = 3
-kindByte Unlink = 4
-kindByte Ask = 5
+abbrev pub kind_byte : Kind → ℕ
+kind_byte Open = 1
+kind_byte Close = 2
+kind_byte Link = 3
+kind_byte Unlink = 4
+kind_byte Ask = 5
 
 -- line and trip number of a run, big-endian: 2 and 4 bytes
-abbrev pub runBytes : Run → List ℕ
-runBytes r =
+abbrev pub run_bytes : Run → List ℕ
+run_bytes r =
     r.line / 256 % 256 ∷ r.line % 256
     ∷ r.trip / 16777216 % 256 ∷ r.trip / 65536 % 256 ∷ r.trip / 256 % 256 ∷ r.trip % 256 ∷ []
 
 -- a run that six bytes can hold: a line in two bytes, a trip number in four
 pub record RunFits (r : Run) : Type 0 where
-  pub line : r.line ≤ lineMost
+  pub line : r.line ≤ line_most
   pub trip : r.trip < 2 ^ 32
 
 -- the mark, the kind, the first run, the second run
 abbrev pub bytes_of : Record → List ℕ
-bytes_of r = mark ++ (kindByte r.kind ∷ (runBytes r.first ++ runBytes r.second))
+bytes_of r = mark ++ (kind_byte r.kind ∷ (run_bytes r.first ++ run_bytes r.second))
 
 -- the bytes begin with the mark
 unfoldable pub marked : List ℕ → Bool
@@ -56,11 +56,11 @@ marked s = eqb (get_or s 0 0) (get_or mark 0 0) && eqb (get_or s 1 0) (get_or ma
 -- what a kind byte stands for
 unfoldable pub kind_of : ℕ → KindByte
 kind_of b =
-    cond (eqb b (kindByte Open)) (Known Open)
-    (cond (eqb b (kindByte Close)) (Known Close)
-    (cond (eqb b (kindByte Link)) (Known Link)
-    (cond (eqb b (kindByte Unlink)) (Known Unlink)
-    (cond (eqb b (kindByte Ask)) (Known Ask) Unknown))))
+    cond (eqb b (kind_byte Open)) (Known Open)
+    (cond (eqb b (kind_byte Close)) (Known Close)
+    (cond (eqb b (kind_byte Link)) (Known Link)
+    (cond (eqb b (kind_byte Unlink)) (Known Unlink)
+    (cond (eqb b (kind_byte Ask)) (Known Ask) Unknown))))
 
 -- the number that two bytes are at a position, big-endian
 abbrev pub pair_at : List ℕ → ℕ → ℕ

@@ -1,9 +1,9 @@
 -- Document 01, "Day records" and "Refusal numbers": what stands first in the rest of a stream.
 use Rattle.std.specs.Prelude.{ℕ, Bool, true, false, not, cond, ◌&&◌, List, eqb, ltb, length, get_or}
-use Rattle.terms.specs.Run.{no_run, sameRun}
+use Rattle.terms.specs.Run.{no_run, same_run}
 use Rattle.terms.specs.declared.run.Run.{Run}
 use Rattle.terms.specs.declared.refusal.Refusal.TheVariants.{WrongMark, WrongKind, CutShort}
-use Rattle.record.specs.Bytes.{recordBytes, kind_at, first_at, secondAt, marked, kind_of, run_at}
+use Rattle.record.specs.Bytes.{record_bytes, kind_at, first_at, second_at, marked, kind_of, run_at}
 use Rattle.record.specs.declared.Kind.{Kind}
 use Rattle.record.specs.declared.Kind.TheVariants.{Open, Close, Link, Unlink, Ask}
 use Rattle.record.specs.declared.reader.KindByte.{KindByte}
@@ -12,16 +12,16 @@ use Rattle.record.specs.declared.reader.Reading.{Reading}
 use Rattle.record.specs.declared.reader.Reading.TheVariants.{Whole, End, Refused}
 
 -- kinds 1 and 2 name one run
-abbrev pub namesOne : Kind → Bool
-namesOne Open = true
-namesOne Close = true
-namesOne Link = false
-namesOne Unlink = false
-namesOne Ask = false
+abbrev pub names_one : Kind → Bool
+names_one Open = true
+names_one Close = true
+names_one Link = false
+names_one Unlink = false
+names_one Ask = false
 
 -- the second run of kinds 1 and 2 is six zero bytes, else the record is refused with 12
 unfoldable pub checked : Kind → Run → Run → Reading
-checked k a b = cond (namesOne k && not (sameRun b no_run)) (Refused WrongKind) (Whole (record { kind = k; first = a; second = b }))
+checked k a b = cond (names_one k && not (same_run b no_run)) (Refused WrongKind) (Whole (record { kind = k; first = a; second = b }))
 
 -- a kind that is not 1 to 5 is refused with 12
 abbrev pub kinded : KindByte → Run → Run → Reading
@@ -32,6 +32,6 @@ kinded Unknown a b = Refused WrongKind
 unfoldable pub reading_of : List ℕ → Reading
 reading_of s =
     cond (eqb (length s) 0) End
-    (cond (ltb (length s) recordBytes) (Refused CutShort)
+    (cond (ltb (length s) record_bytes) (Refused CutShort)
     (cond (not (marked s)) (Refused WrongMark)
-    (kinded (kind_of (get_or s kind_at 0)) (run_at s first_at) (run_at s secondAt))))
+    (kinded (kind_of (get_or s kind_at 0)) (run_at s first_at) (run_at s second_at))))

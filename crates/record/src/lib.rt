@@ -4,8 +4,8 @@ pub mod reader;
 pub mod writer;
 
 ghost use Rattle.std.specs.Prelude.{◌≡◌};
-ghost use Rattle.record.specs.Bytes.{kindByte};
-ghost use Rattle.record.specs.Reading.{namesOne};
+ghost use Rattle.record.specs.Bytes.{kind_byte};
+ghost use Rattle.record.specs.Reading.{names_one};
 
 use terms::run::Run;
 
@@ -32,7 +32,7 @@ impl Kind {
     pub const ASK: u8 = 5;
 
     pub fn byte(self) -> u8
-        ensures { result ≡ kindByte self }
+        ensures { result ≡ kind_byte self }
     {
         match self {
             Kind::Open => Kind::OPEN,
@@ -45,7 +45,7 @@ impl Kind {
 
     // Whether a record of this kind names one run, so that its second run is zero.
     pub fn names_one(self) -> bool
-        ensures { result ≡ namesOne self }
+        ensures { result ≡ names_one self }
     {
         match self {
             Kind::Open => true,

@@ -1,7 +1,7 @@
 // Writing: the fifteen bytes of a record. What is written is read back as the same record (proofs/RoundTrip), so no two records have
 // the same bytes.
 ghost use Rattle.std.specs.Prelude.{◌≡◌, ◌%◌};
-ghost use Rattle.record.specs.Bytes.{runBytes, bytes_of};
+ghost use Rattle.record.specs.Bytes.{run_bytes, bytes_of};
 
 use crate::Record;
 use terms::run::Run;
@@ -15,7 +15,7 @@ fn low(x: u32) -> u8
 
 // A line has two bytes here: of a line above 65,535 the low two are written.
 fn run_bytes(run: Run) -> [u8; 6]
-    ensures { result ≡ runBytes run }
+    ensures { result ≡ run_bytes run }
 {
     [
         low(run.line / 256),

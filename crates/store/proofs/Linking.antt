@@ -14,12 +14,12 @@ use Rattle.terms.specs.declared.refusal.Answer.TheVariants.{Done, Refused}
 use Rattle.meaning.specs.Cells.{list, seek, holds}
 use Rattle.meaning.specs.Table.{NONE, length_of}
 use Rattle.meaning.specs.Soundness.{Sound}
-use Rattle.meaning.specs.Day.{dayOf, place_of}
-use Rattle.meaning.specs.Calls.{Call, ask, unlink, Tests, done, linked, tests, pairTests, firstRefusal, act, unless, call, cut, doUnlink, yes1}
+use Rattle.meaning.specs.Day.{day_of, place_of}
+use Rattle.meaning.specs.Calls.{Call, ask, unlink, Tests, done, linked, tests, pair_tests, first_refusal, act, unless, call, cut, do_unlink, yes1}
 use Rattle.meaning.specs.Promise.{Carries}
-use Rattle.meaning.proofs.Effects.{day-list, unlink-moves, unlink-cut}
+use Rattle.meaning.proofs.Effects.{day_list, unlink_moves, unlink_cut}
 use Rattle.meaning.proofs.Steps.{moved}
-use Rattle.meaning.proofs.Threaded.{Threaded, sound-threaded, list_length}
+use Rattle.meaning.proofs.Threaded.{Threaded, sound_threaded, list_length}
 use Rattle.find.specs.Find.{Spotted, Absent, Found, Barred}
 use Rattle.find.specs.declared.Spot.{Spot}
 use Rattle.find.specs.declared.Ends.{Ends}
@@ -27,92 +27,92 @@ use Rattle.store.proofs.Carrying.{refuses, does}
 
 -- a list has a link to t, or has none
 module _ (n C : ℕ) (w : List ℕ) (T : Threaded n C w) (v t : ℕ) (hv : v < n) where
-  row-length : length (list (dayOf n C w).lists v) ≡ length_of n C w v
-  row-length = ap length (day-list n C w v hv) ∙ list_length n C w T v (omega arith)
+  row_length : length (list (day_of n C w).lists v) ≡ length_of n C w v
+  row_length = ap length (day_list n C w v hv) ∙ list_length n C w T v (omega arith)
 
-  pub spot-seek : (s : Spot) → Spotted s n C w v t → s.position ≡ seek t (list (dayOf n C w).lists v)
-  spot-seek s h = rw (day-list n C w v hv) h.first
+  pub spot_seek : (s : Spot) → Spotted s n C w v t → s.position ≡ seek t (list (day_of n C w).lists v)
+  spot_seek s h = rw (day_list n C w v hv) h.first
 
-  pub spot-within : (s : Spot) → Spotted s n C w v t → seek t (list (dayOf n C w).lists v) < length (list (dayOf n C w).lists v)
-  spot-within s h = omega (arith, row-length, spot-seek s h, h.spot.within)
+  pub spot_within : (s : Spot) → Spotted s n C w v t → seek t (list (day_of n C w).lists v) < length (list (day_of n C w).lists v)
+  spot_within s h = omega (arith, row_length, spot_seek s h, h.spot.within)
 
-  pub has-link : (s : Spot) → Spotted s n C w v t → holds t (list (dayOf n C w).lists v) ≡ true
-  has-link s h = lt-ltb (seek t (list (dayOf n C w).lists v)) (length (list (dayOf n C w).lists v)) (spot-within s h)
+  pub has_link : (s : Spot) → Spotted s n C w v t → holds t (list (day_of n C w).lists v) ≡ true
+  has_link s h = lt-ltb (seek t (list (day_of n C w).lists v)) (length (list (day_of n C w).lists v)) (spot_within s h)
 
-  pub no-link : Absent n C w v t → holds t (list (dayOf n C w).lists v) ≡ false
-  no-link h = le-ltb (seek t (list (dayOf n C w).lists v)) (length (list (dayOf n C w).lists v)) (rw (row-length, day-list n C w v hv) h.none)
+  pub no_link : Absent n C w v t → holds t (list (day_of n C w).lists v) ≡ false
+  no_link h = le-ltb (seek t (list (day_of n C w).lists v)) (length (list (day_of n C w).lists v)) (rw (row_length, day_list n C w v hv) h.none)
 
 module _ (n C D : ℕ) (w : List ℕ) (s : Sound n C D w) (p q : Run) where
   T : Threaded n C w
-  T = sound-threaded n C D w s
+  T = sound_threaded n C D w s
 
   -- a test on the names bars any call on two runs
-  pub bars : (a : Call) (ts : Tests) (why : Refusal) → tests (dayOf n C w) a ≡ pairTests (dayOf n C w) p q ts → Barred n C w p q why → Carries n C D a w (Refused why) w
-  bars a ts why e h = refuses n C D a w s why (ap (λ (o : Option Refusal). unless o (dayOf n C w) (act D (dayOf n C w) a)) (ap firstRefusal e ∙ h.bars ts))
+  pub bars : (a : Call) (ts : Tests) (why : Refusal) → tests (day_of n C w) a ≡ pair_tests (day_of n C w) p q ts → Barred n C w p q why → Carries n C D a w (Refused why) w
+  bars a ts why e h = refuses n C D a w s why (ap (λ (o : Option Refusal). unless o (day_of n C w) (act D (day_of n C w) a)) (ap first_refusal e ∙ h.bars ts))
 
-  pub ask-barred : (why : Refusal) → Barred n C w p q why → Carries n C D (ask p q) w (Refused why) w
-  ask-barred why h = bars (ask p q) [] why refl h
+  pub ask_barred : (why : Refusal) → Barred n C w p q why → Carries n C D (ask p q) w (Refused why) w
+  ask_barred why h = bars (ask p q) [] why refl h
 
-  pub unlink-barred : (why : Refusal) → Barred n C w p q why → Carries n C D (unlink p q) w (Refused why) w
-  unlink-barred why h = bars (unlink p q) ((not (linked (dayOf n C w) (place_of (dayOf n C w) p) (place_of (dayOf n C w) q)), NoLink) ∷ []) why refl h
+  pub unlink_barred : (why : Refusal) → Barred n C w p q why → Carries n C D (unlink p q) w (Refused why) w
+  unlink_barred why h = bars (unlink p q) ((not (linked (day_of n C w) (place_of (day_of n C w) p) (place_of (day_of n C w) q)), NoLink) ∷ []) why refl h
 
   module _ (e : Ends) (f : Found n C w p q e) where
-    pub in-first : (k : Spot) → Spotted k n C w e.first e.second → linked (dayOf n C w) e.first e.second ≡ true
-    in-first k h = rw (has-link n C w T e.first e.second f.first-place k h)
+    pub in_first : (k : Spot) → Spotted k n C w e.first e.second → linked (day_of n C w) e.first e.second ≡ true
+    in_first k h = rw (has_link n C w T e.first e.second f.first_place k h)
 
-    pub in-second : (k : Spot) → Absent n C w e.first e.second → Spotted k n C w e.second e.first → linked (dayOf n C w) e.first e.second ≡ true
-    in-second k a h = rw (no-link n C w T e.first e.second f.first-place a, has-link n C w T e.second e.first f.second-place k h)
+    pub in_second : (k : Spot) → Absent n C w e.first e.second → Spotted k n C w e.second e.first → linked (day_of n C w) e.first e.second ≡ true
+    in_second k a h = rw (no_link n C w T e.first e.second f.first_place a, has_link n C w T e.second e.first f.second_place k h)
 
-    pub in-neither : Absent n C w e.first e.second → Absent n C w e.second e.first → linked (dayOf n C w) e.first e.second ≡ false
-    in-neither a b = rw (no-link n C w T e.first e.second f.first-place a, no-link n C w T e.second e.first f.second-place b)
+    pub in_neither : Absent n C w e.first e.second → Absent n C w e.second e.first → linked (day_of n C w) e.first e.second ≡ false
+    in_neither a b = rw (no_link n C w T e.first e.second f.first_place a, no_link n C w T e.second e.first f.second_place b)
 
-    asked : (b : Bool) → linked (dayOf n C w) e.first e.second ≡ b → Carries n C D (ask p q) w (Done (yes1 b)) w
+    asked : (b : Bool) → linked (day_of n C w) e.first e.second ≡ b → Carries n C D (ask p q) w (Done (yes1 b)) w
     asked b h =
-        does n C D (ask p q) w s (done (yes1 b) (dayOf n C w)) (Done (yes1 b)) w
-        (ap (λ (o : Option Refusal). unless o (dayOf n C w) (act D (dayOf n C w) (ask p q))) (f.passed [])
+        does n C D (ask p q) w s (done (yes1 b) (day_of n C w)) (Done (yes1 b)) w
+        (ap (λ (o : Option Refusal). unless o (day_of n C w) (act D (day_of n C w) (ask p q))) (f.passed [])
         ∙ rw (← f.first, ← f.second, h)) refl T refl
 
-    pub ask-first : (k : Spot) → Spotted k n C w e.first e.second → Carries n C D (ask p q) w (Done 1) w
-    ask-first k h = asked true (in-first k h)
+    pub ask_first : (k : Spot) → Spotted k n C w e.first e.second → Carries n C D (ask p q) w (Done 1) w
+    ask_first k h = asked true (in_first k h)
 
-    pub ask-second : (k : Spot) → Absent n C w e.first e.second × Spotted k n C w e.second e.first → Carries n C D (ask p q) w (Done 1) w
-    ask-second k h = asked true (in-second k h.0 h.1)
+    pub ask_second : (k : Spot) → Absent n C w e.first e.second × Spotted k n C w e.second e.first → Carries n C D (ask p q) w (Done 1) w
+    ask_second k h = asked true (in_second k h.0 h.1)
 
-    pub ask-neither : Absent n C w e.first e.second × Absent n C w e.second e.first → Carries n C D (ask p q) w (Done 0) w
-    ask-neither h = asked false (in-neither h.0 h.1)
+    pub ask_neither : Absent n C w e.first e.second × Absent n C w e.second e.first → Carries n C D (ask p q) w (Done 0) w
+    ask_neither h = asked false (in_neither h.0 h.1)
 
     -- the test 7 of unlink, once the names have passed
     no_such : Tests
-    no_such = (not (linked (dayOf n C w) (place_of (dayOf n C w) p) (place_of (dayOf n C w) q)), NoLink) ∷ []
+    no_such = (not (linked (day_of n C w) (place_of (day_of n C w) p) (place_of (day_of n C w) q)), NoLink) ∷ []
 
-    past : call D (dayOf n C w) (unlink p q) ≡ unless (firstRefusal no_such) (dayOf n C w) (act D (dayOf n C w) (unlink p q))
+    past : call D (day_of n C w) (unlink p q) ≡ unless (first_refusal no_such) (day_of n C w) (act D (day_of n C w) (unlink p q))
     unfolding no_such
-    past = ap (λ (o : Option Refusal). unless o (dayOf n C w) (act D (dayOf n C w) (unlink p q))) (f.passed no_such)
+    past = ap (λ (o : Option Refusal). unless o (day_of n C w) (act D (day_of n C w) (unlink p q))) (f.passed no_such)
 
-    pub unlink-neither : Absent n C w e.first e.second × Absent n C w e.second e.first → Carries n C D (unlink p q) w (Refused NoLink) w
+    pub unlink_neither : Absent n C w e.first e.second × Absent n C w e.second e.first → Carries n C D (unlink p q) w (Refused NoLink) w
     unfolding no_such
-    unlink-neither h = refuses n C D (unlink p q) w s NoLink (past ∙ rw (← f.first, ← f.second, in-neither h.0 h.1))
+    unlink_neither h = refuses n C D (unlink p q) w s NoLink (past ∙ rw (← f.first, ← f.second, in_neither h.0 h.1))
 
-    cuts : (u x : ℕ) (k : Spot) (w' : List ℕ) → u < n → Spotted k n C w u x → call D (dayOf n C w) (unlink p q) ≡ done 0 (cut (dayOf n C w) u x)
+    cuts : (u x : ℕ) (k : Spot) (w' : List ℕ) → u < n → Spotted k n C w u x → call D (day_of n C w) (unlink p q) ≡ done 0 (cut (day_of n C w) u x)
         → w' ≡ moved n C w u k.position n NONE → Carries n C D (unlink p q) w (Done 0) w'
     cuts u x k w' hu h g m =
-        does n C D (unlink p q) w s (done 0 (cut (dayOf n C w) u x)) (Done 0) w' g refl
-        (rw m (unlink-moves n C w T u k.position hu h.spot.within).threaded)
-        (rw (m, spot-seek n C w T u x hu k h) (unlink-cut n C w T u x hu (spot-within n C w T u x hu k h)))
+        does n C D (unlink p q) w s (done 0 (cut (day_of n C w) u x)) (Done 0) w' g refl
+        (rw m (unlink_moves n C w T u k.position hu h.spot.within).threaded)
+        (rw (m, spot_seek n C w T u x hu k h) (unlink_cut n C w T u x hu (spot_within n C w T u x hu k h)))
 
-    pub unlink-first : (k : Spot) (w' : List ℕ) → Spotted k n C w e.first e.second → w' ≡ moved n C w e.first k.position n NONE → Carries n C D (unlink p q) w (Done 0) w'
+    pub unlink_first : (k : Spot) (w' : List ℕ) → Spotted k n C w e.first e.second → w' ≡ moved n C w e.first k.position n NONE → Carries n C D (unlink p q) w (Done 0) w'
     unfolding no_such
-    unlink-first k w' h m =
-        cuts e.first e.second k w' f.first-place h
-        (past ∙ rw (← f.first, ← f.second, in-first k h, doUnlink, has-link n C w T e.first e.second f.first-place k h, f.first, f.second)) m
+    unlink_first k w' h m =
+        cuts e.first e.second k w' f.first_place h
+        (past ∙ rw (← f.first, ← f.second, in_first k h, do_unlink, has_link n C w T e.first e.second f.first_place k h, f.first, f.second)) m
 
-    pub unlink-second : (k : Spot) (w' : List ℕ) → Absent n C w e.first e.second × Spotted k n C w e.second e.first
+    pub unlink_second : (k : Spot) (w' : List ℕ) → Absent n C w e.first e.second × Spotted k n C w e.second e.first
         → w' ≡ moved n C w e.second k.position n NONE → Carries n C D (unlink p q) w (Done 0) w'
     unfolding no_such
-    unlink-second k w' h m =
-        cuts e.second e.first k w' f.second-place h.1
-        (past ∙ rw (← f.first, ← f.second, in-second k h.0 h.1, doUnlink, no-link n C w T e.first e.second f.first-place h.0, f.first, f.second)) m
+    unlink_second k w' h m =
+        cuts e.second e.first k w' f.second_place h.1
+        (past ∙ rw (← f.first, ← f.second, in_second k h.0 h.1, do_unlink, no_link n C w T e.first e.second f.first_place h.0, f.first, f.second)) m
 
 -- what the search for the link needs
-pub found-two : (n C D : ℕ) (w : List ℕ) (p q : Run) (e : Ends) → Sound n C D w → Found n C w p q e → Threaded n C w × (e.first < n) × (e.second < n)
-found-two n C D w p q e s f = (sound-threaded n C D w s, f.first-place, f.second-place)
+pub found_two : (n C D : ℕ) (w : List ℕ) (p q : Run) (e : Ends) → Sound n C D w → Found n C w p q e → Threaded n C w × (e.first < n) × (e.second < n)
+found_two n C D w p q e s f = (sound_threaded n C D w s, f.first_place, f.second_place)

@@ -1,6 +1,6 @@
 -- Words for a set of places: which are marked, and what their lists add up to.
 use Rattle.std.specs.Prelude.{ℕ, ◌+◌, ◌<◌, List, [], ◌∷◌, ◌≡◌, length, get_or}
-use Rattle.meaning.specs.Cells.{Cell, rowSum}
+use Rattle.meaning.specs.Cells.{Cell, row_sum}
 use Rattle.meaning.specs.Calls.{in_set}
 
 -- every place of a set is below m
@@ -14,7 +14,7 @@ pub record Marks (m : ℕ) (ps marks : List ℕ) : Type 0 where
 
 -- the marks of a list's targets, added up
 abbrev pub marked : List ℕ → List Cell → ℕ
-marked marks l = rowSum (λ c. get_or marks c.target 0) l
+marked marks l = row_sum (λ c. get_or marks c.target 0) l
 
 -- a number of each place of a set, added up
 abbrev pub total : (ℕ → ℕ) → List ℕ → ℕ

@@ -1,5 +1,5 @@
 // Opening and closing a run.
-ghost use Rattle.meaning.specs.Calls.{openRun, closeRun};
+ghost use Rattle.meaning.specs.Calls.{open_run, close_run};
 ghost use Rattle.meaning.specs.Promise.{Carries};
 ghost use Rattle.meaning.specs.Soundness.{Sound};
 
@@ -11,7 +11,7 @@ use terms::run::Run;
 // The run takes the lowest free place, whose number is the answer.
 pub fn open(store: &mut [u32], n: usize, c: usize, d: usize, run: Run) -> Answer
     requires { Sound n c d store.old }
-    ensures { Carries n c d (openRun run) store.old result store.new }
+    ensures { Carries n c d (open_run run) store.old result store.new }
 {
     if run.is_bad() {
         return Answer::Refused(Refusal::BadName);
@@ -30,7 +30,7 @@ pub fn open(store: &mut [u32], n: usize, c: usize, d: usize, run: Run) -> Answer
 // The run's place becomes free, if no link touches it.
 pub fn close(store: &mut [u32], n: usize, c: usize, d: usize, run: Run) -> Answer
     requires { Sound n c d store.old }
-    ensures { Carries n c d (closeRun run) store.old result store.new }
+    ensures { Carries n c d (close_run run) store.old result store.new }
 {
     if run.is_bad() {
         return Answer::Refused(Refusal::BadName);

@@ -2,8 +2,8 @@
 // their own lists are read, since a link with both ends in the set stands in the list of one of them.
 ghost use Rattle.std.specs.Prelude.{◌*◌, ◌≤◌, ◌<◌, length, replicate, true, ◌≡◌};
 ghost use Rattle.meaning.specs.Soundness.{Aimed, Sound};
-ghost use Rattle.meaning.specs.Day.{dayOf, cells_of};
-ghost use Rattle.meaning.specs.Calls.{rising, openPlace, allOpen, reading};
+ghost use Rattle.meaning.specs.Day.{day_of, cells_of};
+ghost use Rattle.meaning.specs.Calls.{rising, open_place, all_open, reading};
 ghost use Rattle.meaning.specs.Promise.{Carries};
 ghost use Rattle.meaning.proofs.Threaded.{Threaded};
 ghost use Rattle.store.specs.Set.{AllBelow, Marks, marked, total};
@@ -30,7 +30,7 @@ fn rising(places: &[u32]) -> bool
 // A place number of n or above isn't open.
 fn is_open(store: &[u32], n: usize, c: usize, v: usize) -> bool
     requires { Within n c store.now }
-    ensures { result ≡ openPlace (dayOf n c store.now) v }
+    ensures { result ≡ open_place (day_of n c store.now) v }
 {
     if v >= n {
         return false;
@@ -42,7 +42,7 @@ fn is_open(store: &[u32], n: usize, c: usize, v: usize) -> bool
 // Every place of the set is open.
 fn all_open(store: &[u32], n: usize, c: usize, places: &[u32]) -> bool
     requires { Within n c store.now }
-    ensures { result ≡ allOpen (dayOf n c store.now) places.now }
+    ensures { result ≡ all_open (day_of n c store.now) places.now }
 {
     let mut i: usize = 0;
     while i < places.len() {

@@ -8,7 +8,7 @@ use Rattle.terms.specs.declared.refusal.Answer.TheVariants.{Done, Refused}
 use Rattle.terms.specs.declared.refusal.Refusal.{Refusal}
 use Rattle.record.specs.declared.Kind.{Kind}
 use Rattle.record.specs.declared.Kind.TheVariants.{Open, Close, Link, Unlink, Ask}
-use Rattle.meaning.specs.Stream.{asksFor, taken, reversed}
+use Rattle.meaning.specs.Stream.{asks_for, taken, reversed}
 use Rattle.stream.specs.Totals.{Forward}
 use Rattle.stream.specs.declared.totals.Totals.{Totals}
 
@@ -19,7 +19,7 @@ pub data Counts-nothing : Kind → Type 0 where
   unlinking : Counts-nothing Unlink
   asking : Counts-nothing Ask
 
-idle : (k : Kind) (a : Answer) → Counts-nothing k → (taken (asksFor k no_run no_run) a ≡ 0) × (reversed (asksFor k no_run no_run) a ≡ 0)
+idle : (k : Kind) (a : Answer) → Counts-nothing k → (taken (asks_for k no_run no_run) a ≡ 0) × (reversed (asks_for k no_run no_run) a ≡ 0)
 idle k a opening = (refl, refl)
 idle k a closing = (refl, refl)
 idle k a unlinking = (refl, refl)

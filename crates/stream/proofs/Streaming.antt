@@ -8,66 +8,66 @@ use native.Mathlib.Decide.{ℕ_discrete}
 use native.Mathlib.Omega.{arith}
 use lib.ListN.{length, take, drop, length-drop, length-replicate}
 use lib.Seq.{take_all, drop-drop}
-use Rattle.terms.specs.Size.{store_words, waitingWords, streamMost}
+use Rattle.terms.specs.Size.{store_words, waiting_words, stream_most}
 use Rattle.terms.specs.declared.refusal.Refusal.{Refusal}
-use Rattle.record.specs.Bytes.{recordBytes}
+use Rattle.record.specs.Bytes.{record_bytes}
 use Rattle.record.specs.Reading.{reading_of}
 use Rattle.record.specs.declared.Record.{Record}
 use Rattle.record.specs.declared.reader.Reading.{Reading}
 use Rattle.record.specs.declared.reader.Reading.TheVariants.{Whole, End, Refused}
-use Rattle.record.proofs.Readings.{at-end, whole_long}
+use Rattle.record.proofs.Readings.{at_end, whole_long}
 use Rattle.meaning.specs.Soundness.{Sound}
-use Rattle.meaning.specs.Day.{Day, dayOf}
-use Rattle.meaning.specs.Stream.{Day-records, read_on, read_all, recordsOf, Progress, latest, carry, carryAll}
-use Rattle.meaning.specs.Promise.{Lent, spareAfter, waitingAfter, Tables, StreamLent, progress, SpareIs, waitingThen, StreamCarries}
-use Rattle.meaning.proofs.Words.{written-length}
+use Rattle.meaning.specs.Day.{Day, day_of}
+use Rattle.meaning.specs.Stream.{Day-records, read_on, read_all, records_of, Progress, latest, carry, carry_all}
+use Rattle.meaning.specs.Promise.{Lent, spare_after, waiting_after, Tables, StreamLent, progress, SpareIs, waiting_then, StreamCarries}
+use Rattle.meaning.proofs.Words.{written_length}
 use Rattle.stream.specs.Carry.{StepOk, Stepped, outcome}
 use Rattle.stream.specs.Streamed.{tables}
 use Rattle.stream.specs.declared.totals.Totals.{Totals}
 
 -- ---- reading on
 module _ (s : List ℕ) where
-  pub refused-some : (why : Refusal) → reading_of s ≡ Refused why → 0 < length s
-  refused-some why e = elim (ℕ_discrete (length s) 0) [
-    | yes z ↦ let a = at-end s z in let q : ◌≡◌ {A = ℕ} 0 1 = cc in absurd (omega arith)
+  pub refused_some : (why : Refusal) → reading_of s ≡ Refused why → 0 < length s
+  refused_some why e = elim (ℕ_discrete (length s) 0) [
+    | yes z ↦ let a = at_end s z in let q : ◌≡◌ {A = ℕ} 0 1 = cc in absurd (omega arith)
     | no z ↦ omega (arith, z)
   ]
 
-  read-end : (k : ℕ) → reading_of s ≡ End → read_all k s ≡ record { records = []; stop = none }
+  read_end : (k : ℕ) → reading_of s ≡ End → read_all k s ≡ record { records = []; stop = none }
   unfolding read_all
-  read-end zero e = refl
-  read-end (suc k) e = ap (λ (x : Reading). read_on x (read_all k (drop recordBytes s))) e
+  read_end zero e = refl
+  read_end (suc k) e = ap (λ (x : Reading). read_on x (read_all k (drop record_bytes s))) e
 
-  read-stop : (k : ℕ) (why : Refusal) → 0 < k → reading_of s ≡ Refused why → read_all k s ≡ record { records = []; stop = some why }
+  read_stop : (k : ℕ) (why : Refusal) → 0 < k → reading_of s ≡ Refused why → read_all k s ≡ record { records = []; stop = some why }
   unfolding read_all
-  read-stop zero why h e = absurd (omega arith)
-  read-stop (suc k) why h e = ap (λ (x : Reading). read_on x (read_all k (drop recordBytes s))) e
+  read_stop zero why h e = absurd (omega arith)
+  read_stop (suc k) why h e = ap (λ (x : Reading). read_on x (read_all k (drop record_bytes s))) e
 
-  read-on : (k j : ℕ) (r : Record) → k ≡ suc j → reading_of s ≡ Whole r
-      → read_all k s ≡ record { records = r ∷ (read_all j (drop recordBytes s)).records; stop = (read_all j (drop recordBytes s)).stop }
+  read_on_lem : (k j : ℕ) (r : Record) → k ≡ suc j → reading_of s ≡ Whole r
+      → read_all k s ≡ record { records = r ∷ (read_all j (drop record_bytes s)).records; stop = (read_all j (drop record_bytes s)).stop }
   unfolding read_all
-  read-on k j r h e = ap (λ (i : ℕ). read_all i s) h ∙ ap (λ (x : Reading). read_on x (read_all j (drop recordBytes s))) e
+  read_on_lem k j r h e = ap (λ (i : ℕ). read_all i s) h ∙ ap (λ (x : Reading). read_on x (read_all j (drop record_bytes s))) e
 
 -- ---- where the stream stands; `turned` is the day as at entry of the last link that began turning
 abbrev pub reached : ℕ → ℕ → List ℕ → List ℕ → ℕ → Totals → Option Day → Progress
 reached n C store answers carried t turned =
-    record { day = dayOf n C store; answers = answers; carried = carried; accepted = t.accepted; reversals = t.reversals; turned = turned }
+    record { day = day_of n C store; answers = answers; carried = carried; accepted = t.accepted; reversals = t.reversals; turned = turned }
 
 pub record Going (n C D : ℕ) (bytes : List ℕ) (t₀ : Tables) (store spare waiting answers : List ℕ) (at carried : ℕ) (t : Totals) : Type 0 where
   pub turned : Option Day
   pub lent : Lent n C D store spare waiting
   pub sound : Sound n C D store
-  pub place : at ≡ recordBytes * carried
+  pub place : at ≡ record_bytes * carried
   pub within : at ≤ length bytes
-  pub short : length bytes ≤ streamMost
+  pub short : length bytes ≤ stream_most
   pub room : length answers ≡ length t₀.answers
-  pub long : 2 * (length bytes / recordBytes) ≤ length answers
+  pub long : 2 * (length bytes / record_bytes) ≤ length answers
   pub spared : SpareIs n C D turned t₀.spare spare
-  pub waited : waiting ≡ waitingThen n turned t₀.waiting
+  pub waited : waiting ≡ waiting_then n turned t₀.waiting
   pub accepted : t.accepted ≤ 2 ^ 62 + carried
   pub reversals : t.reversals ≤ 2 ^ 62 + 2 ^ 32 * carried
-  pub same : carryAll D (read_all (length bytes - carried) (drop at bytes)).records (reached n C store answers carried t turned) ≡ progress n C D bytes t₀
-  pub stop : (read_all (length bytes - carried) (drop at bytes)).stop ≡ (recordsOf bytes).stop
+  pub same : carry_all D (read_all (length bytes - carried) (drop at bytes)).records (reached n C store answers carried t turned) ≡ progress n C D bytes t₀
+  pub stop : (read_all (length bytes - carried) (drop at bytes)).stop ≡ (records_of bytes).stop
 
 pub going_start : (n C D : ℕ) (bytes store spare waiting answers : List ℕ) (t : Totals) → StreamLent n C D bytes (tables store spare waiting answers t) → Sound n C D store
     → Going n C D bytes (tables store spare waiting answers t) store spare waiting answers 0 0 t
@@ -81,28 +81,28 @@ going_start n C D bytes store spare waiting answers t l s =
       within = omega arith;
       short = l.short;
       room = refl;
-      long = l.answers-long;
+      long = l.answers_long;
       spared = refl;
       waited = refl;
-      accepted = omega (arith, l.accepted-most);
-      reversals = omega (arith, l.reversals-most);
+      accepted = omega (arith, l.accepted_most);
+      reversals = omega (arith, l.reversals_most);
       same = rw z;
       stop = rw z;
     }
 
 module _ (n C D : ℕ) (bytes : List ℕ) (t₀ : Tables) (store spare waiting answers : List ℕ) (at carried : ℕ) (t : Totals)
     (g : Going n C D bytes t₀ store spare waiting answers at carried t) (s : List ℕ) (es : s ≡ take (length bytes - at) (drop at bytes)) where
-  rest-is : s ≡ drop at bytes
-  rest-is = es ∙ take_all (length bytes - at) (drop at bytes) (rw length-drop (omega arith))
+  rest_is : s ≡ drop at bytes
+  rest_is = es ∙ take_all (length bytes - at) (drop at bytes) (rw length-drop (omega arith))
 
-  rest-long : length s ≡ length bytes - at
-  rest-long = ap length rest-is ∙ length-drop at bytes
+  rest_long : length s ≡ length bytes - at
+  rest_long = ap length rest_is ∙ length-drop at bytes
 
   module _ (r : Record) (o : Reading) (eo : o ≡ reading_of s) (er : o ≡ Whole r) where
     whole : reading_of (drop at bytes) ≡ Whole r
-    whole = ap reading_of (sym rest-is) ∙ (sym eo ∙ er)
+    whole = ap reading_of (sym rest_is) ∙ (sym eo ∙ er)
 
-    one_more : at + recordBytes ≤ length bytes
+    one_more : at + record_bytes ≤ length bytes
     one_more = omega (arith, whole_long (drop at bytes) r whole, length-drop at bytes, g.within)
 
     pub going_step : StepOk n C D store spare waiting answers carried t
@@ -114,84 +114,84 @@ module _ (n C D : ℕ) (bytes : List ℕ) (t₀ : Tables) (store spare waiting a
       reversals = omega (arith, g.reversals, one_more, g.place, g.short);
     }
 
-    pub going-few : (carried < 65535) × (at + recordBytes ≤ length bytes)
-    going-few = (omega (arith, one_more, g.place, g.short), one_more)
+    pub going_few : (carried < 65535) × (at + record_bytes ≤ length bytes)
+    going_few = (omega (arith, one_more, g.place, g.short), one_more)
 
     module _ (store' spare' waiting' answers' : List ℕ) (t' : Totals)
         (h : Stepped n C D r store spare waiting answers carried t store' spare' waiting' answers' t') where
       turned' : Option Day
-      turned' = latest (outcome n C D r store).began (dayOf n C store) g.turned
+      turned' = latest (outcome n C D r store).began (day_of n C store) g.turned
 
-      spared' : (b : Bool) → spare' ≡ spareAfter b store spare → SpareIs n C D (latest b (dayOf n C store) g.turned) t₀.spare spare'
+      spared' : (b : Bool) → spare' ≡ spare_after b store spare → SpareIs n C D (latest b (day_of n C store) g.turned) t₀.spare spare'
       spared' true e = record { sound = rw e g.sound; day = rw e }
       spared' false e = subst (λ (x : List ℕ). SpareIs n C D g.turned t₀.spare x) (sym e) g.spared
 
-      waited' : (b : Bool) → waiting' ≡ waitingAfter b n waiting → waiting' ≡ waitingThen n (latest b (dayOf n C store) g.turned) t₀.waiting
+      waited' : (b : Bool) → waiting' ≡ waiting_after b n waiting → waiting' ≡ waiting_then n (latest b (day_of n C store) g.turned) t₀.waiting
       waited' true e = e
       waited' false e = e ∙ g.waited
 
-      spare-long' : (b : Bool) → spare' ≡ spareAfter b store spare → length spare' ≡ store_words n C
-      spare-long' true e = ap length e ∙ g.sound.sized.long
-      spare-long' false e = ap length e ∙ g.lent.spare-long
+      spare_long' : (b : Bool) → spare' ≡ spare_after b store spare → length spare' ≡ store_words n C
+      spare_long' true e = ap length e ∙ g.sound.sized.long
+      spare_long' false e = ap length e ∙ g.lent.spare_long
 
-      waiting-long' : (b : Bool) → waiting' ≡ waitingAfter b n waiting → length waiting' ≡ waitingWords n
-      waiting-long' true e = ap length e ∙ length-replicate n 0
-      waiting-long' false e = ap length e ∙ g.lent.waiting-long
+      waiting_long' : (b : Bool) → waiting' ≡ waiting_after b n waiting → length waiting' ≡ waiting_words n
+      waiting_long' true e = ap length e ∙ length-replicate n 0
+      waiting_long' false e = ap length e ∙ g.lent.waiting_long
 
       forward : carry D (reached n C store answers carried t g.turned) r ≡ reached n C store' answers' (carried + 1) t' turned'
       unfolding turned'
       forward = λ i. record {
         day = sym h.holds.day i;
-        answers = sym h.answers-are i;
+        answers = sym h.answers_are i;
         carried = carried + 1;
         accepted = sym h.accepted i;
         reversals = sym h.reversals i;
-        turned = latest (outcome n C D r store).began (dayOf n C store) g.turned;
+        turned = latest (outcome n C D r store).began (day_of n C store) g.turned;
       }
 
       fuel : length bytes - carried ≡ suc (length bytes - (carried + 1))
       fuel = omega (arith, one_more, g.place)
 
-      step-read : read_all (length bytes - carried) (drop at bytes)
-          ≡ record { records = r ∷ (read_all (length bytes - (carried + 1)) (drop (at + recordBytes) bytes)).records; stop = (read_all (length bytes - (carried + 1)) (drop (at + recordBytes) bytes)).stop }
-      step-read = rw (← drop-drop recordBytes at bytes) (read-on (drop at bytes) (length bytes - carried) (length bytes - (carried + 1)) r fuel whole)
+      step_read : read_all (length bytes - carried) (drop at bytes)
+          ≡ record { records = r ∷ (read_all (length bytes - (carried + 1)) (drop (at + record_bytes) bytes)).records; stop = (read_all (length bytes - (carried + 1)) (drop (at + record_bytes) bytes)).stop }
+      step_read = rw (← drop-drop record_bytes at bytes) (read_on_lem (drop at bytes) (length bytes - carried) (length bytes - (carried + 1)) r fuel whole)
 
-      pub going_next : Going n C D bytes t₀ store' spare' waiting' answers' (at + recordBytes) (carried + 1) t'
-      unfolding carryAll turned'
+      pub going_next : Going n C D bytes t₀ store' spare' waiting' answers' (at + record_bytes) (carried + 1) t'
+      unfolding carry_all turned'
       going_next =
-          let next : List Record = (read_all (length bytes - (carried + 1)) (drop (at + recordBytes) bytes)).records in
-          let eq : carryAll D (read_all (length bytes - carried) (drop at bytes)).records (reached n C store answers carried t g.turned)
-          ≡ carryAll D next (reached n C store' answers' (carried + 1) t' turned')
-          = ap (λ (x : Day-records). carryAll D x.records (reached n C store answers carried t g.turned)) step-read ∙ ap (carryAll D next) forward in
+          let next : List Record = (read_all (length bytes - (carried + 1)) (drop (at + record_bytes) bytes)).records in
+          let eq : carry_all D (read_all (length bytes - carried) (drop at bytes)).records (reached n C store answers carried t g.turned)
+          ≡ carry_all D next (reached n C store' answers' (carried + 1) t' turned')
+          = ap (λ (x : Day-records). carry_all D x.records (reached n C store answers carried t g.turned)) step_read ∙ ap (carry_all D next) forward in
           record {
             turned = turned';
             lent = record {
               sized = h.holds.sound.sized;
-              spare-long = spare-long' (outcome n C D r store).began h.spared;
-              waiting-long = waiting-long' (outcome n C D r store).began h.waited;
+              spare_long = spare_long' (outcome n C D r store).began h.spared;
+              waiting_long = waiting_long' (outcome n C D r store).began h.waited;
             };
             sound = h.holds.sound;
             place = omega (arith, g.place);
             within = one_more;
             short = g.short;
-            room = long-answers ∙ g.room;
-            long = omega (arith, g.long, long-answers);
+            room = long_answers ∙ g.room;
+            long = omega (arith, g.long, long_answers);
             spared = spared' (outcome n C D r store).began h.spared;
             waited = waited' (outcome n C D r store).began h.waited;
             accepted = omega (arith, g.accepted, h.few.0);
             reversals = omega (arith, g.reversals, h.few.1);
             same = sym eq ∙ g.same;
-            stop = sym (ap (λ (x : Day-records). x.stop) step-read) ∙ g.stop;
+            stop = sym (ap (λ (x : Day-records). x.stop) step_read) ∙ g.stop;
           }
         where
-          long-answers : length answers' ≡ length answers
-          long-answers = ap length h.answers-are ∙ (simp written-length)
+          long_answers : length answers' ≡ length answers
+          long_answers = ap length h.answers_are ∙ (simp written_length)
 
   -- ---- the two ways out
   module _ (o : Reading) (eo : o ≡ reading_of s) (st : Option Refusal) (er : read_all (length bytes - carried) (drop at bytes) ≡ record { records = []; stop = st }) where
     done : reached n C store answers carried t g.turned ≡ progress n C D bytes t₀
-    unfolding carryAll
-    done = sym (ap (λ (x : Day-records). carryAll D x.records (reached n C store answers carried t g.turned)) er) ∙ g.same
+    unfolding carry_all
+    done = sym (ap (λ (x : Day-records). carry_all D x.records (reached n C store answers carried t g.turned)) er) ∙ g.same
 
     ended : StreamCarries n C D bytes t₀ (record { stop = st; carried = carried }) (tables store spare waiting answers t)
     ended = record {
@@ -199,7 +199,7 @@ module _ (n C D : ℕ) (bytes : List ℕ) (t₀ : Tables) (store spare waiting a
       carried = ap (λ (p : Progress). p.carried) done;
       holds = record { sound = g.sound; day = ap (λ (p : Progress). p.day) done };
       spared = subst (λ (x : Option Day). SpareIs n C D x t₀.spare spare) (ap (λ (p : Progress). p.turned) done) g.spared;
-      waited = g.waited ∙ ap (λ (p : Progress). waitingThen n p.turned t₀.waiting) done;
+      waited = g.waited ∙ ap (λ (p : Progress). waiting_then n p.turned t₀.waiting) done;
       answered = ap (λ (p : Progress). p.answers) done;
       accepted = ap (λ (p : Progress). p.accepted) done;
       reversals = ap (λ (p : Progress). p.reversals) done;
@@ -207,13 +207,13 @@ module _ (n C D : ℕ) (bytes : List ℕ) (t₀ : Tables) (store spare waiting a
 
   module _ (o : Reading) (eo : o ≡ reading_of s) where
     at_drop : o ≡ reading_of (drop at bytes)
-    at_drop = eo ∙ ap reading_of rest-is
+    at_drop = eo ∙ ap reading_of rest_is
 
     pub going_end : o ≡ End → StreamCarries n C D bytes t₀ (record { stop = none; carried = carried }) (tables store spare waiting answers t)
-    going_end e = ended o eo none (read-end (drop at bytes) (length bytes - carried) (sym at_drop ∙ e))
+    going_end e = ended o eo none (read_end (drop at bytes) (length bytes - carried) (sym at_drop ∙ e))
 
-    pub going-stop : (why : Refusal) → o ≡ Refused why → StreamCarries n C D bytes t₀ (record { stop = some why; carried = carried }) (tables store spare waiting answers t)
-    going-stop why e =
+    pub going_stop : (why : Refusal) → o ≡ Refused why → StreamCarries n C D bytes t₀ (record { stop = some why; carried = carried }) (tables store spare waiting answers t)
+    going_stop why e =
         let q : reading_of (drop at bytes) ≡ Refused why = sym at_drop ∙ e in
-        let z : 0 < length bytes - carried = omega (arith, refused-some (drop at bytes) why q, length-drop at bytes, g.place, g.within) in
-        ended o eo (some why) (read-stop (drop at bytes) (length bytes - carried) why z q)
+        let z : 0 < length bytes - carried = omega (arith, refused_some (drop at bytes) why q, length-drop at bytes, g.place, g.within) in
+        ended o eo (some why) (read_stop (drop at bytes) (length bytes - carried) why z q)

@@ -1,8 +1,8 @@
 -- The stream's answer in the meaning's terms.
 use Rattle.std.specs.Prelude.{ℕ, ◌*◌, ◌/◌, ◌≤◌, List, ◌≡◌}
 use Rattle.std.proofs.Math.Option.{Option, none, some}
-use Rattle.terms.specs.Size.{streamMost, totalMost}
-use Rattle.record.specs.Bytes.{recordBytes}
+use Rattle.terms.specs.Size.{stream_most, total_most}
+use Rattle.record.specs.Bytes.{record_bytes}
 use Rattle.terms.specs.declared.refusal.Refusal.{Refusal}
 use Rattle.meaning.specs.Promise.{Tables, Result}
 use Rattle.stream.specs.declared.Stop.{Stop}
@@ -11,13 +11,13 @@ use Rattle.stream.specs.declared.Streamed.{Streamed}
 use Rattle.stream.specs.declared.totals.Totals.{Totals}
 
 -- 0 at the end of the bytes: no refusal
-abbrev pub stopOf : Stop → Option Refusal
-stopOf End = none
-stopOf (At why) = some why
+abbrev pub stop_of : Stop → Option Refusal
+stop_of End = none
+stop_of (At why) = some why
 
 -- what it returns
 abbrev pub result_of : Streamed → Result
-result_of r = record { stop = stopOf r.stop; carried = r.carried }
+result_of r = record { stop = stop_of r.stop; carried = r.carried }
 
 -- the lent tables and the totals
 abbrev pub tables : List ℕ → List ℕ → List ℕ → List ℕ → Totals → Tables
@@ -26,12 +26,12 @@ tables store spare waiting answers t =
 
 -- the lengths beside the store's own, and the limits of the bytes and the totals
 pub record Fitting (n store spare waiting bytes answers : ℕ) (t : Totals) : Type 0 where
-  pub spare-long : spare ≡ store
-  pub waiting-long : waiting ≡ n
-  pub short : bytes ≤ streamMost
-  pub answers-long : 2 * (bytes / recordBytes) ≤ answers
-  pub accepted-most : t.accepted ≤ totalMost
-  pub reversals-most : t.reversals ≤ totalMost
+  pub spare_long : spare ≡ store
+  pub waiting_long : waiting ≡ n
+  pub short : bytes ≤ stream_most
+  pub answers_long : 2 * (bytes / record_bytes) ≤ answers
+  pub accepted_most : t.accepted ≤ total_most
+  pub reversals_most : t.reversals ≤ total_most
 
 -- a stream refused as a whole
 pub record Stopped (why : Refusal) (t : Totals) (r : Streamed) : Type 0 where

@@ -4,9 +4,9 @@ pub mod carry;
 pub mod totals;
 
 ghost use Rattle.std.specs.Prelude.{◌+◌, ◌<◌, ◌≡◌};
-ghost use Rattle.meaning.specs.Promise.{StreamLent, StreamCarries, StreamPromise, stopNumber};
+ghost use Rattle.meaning.specs.Promise.{StreamLent, StreamCarries, StreamPromise, stop_number};
 ghost use Rattle.meaning.specs.Soundness.{Sound};
-ghost use Rattle.stream.specs.Streamed.{tables, stopOf, result_of, Fitting, Stopped};
+ghost use Rattle.stream.specs.Streamed.{tables, stop_of, result_of, Fitting, Stopped};
 ghost use Rattle.terms.specs.Tells.{Tells};
 
 use carry::step;
@@ -27,7 +27,7 @@ pub enum Stop {
 impl Stop {
     // The refusal's number, 0 at the end of the bytes.
     pub fn number(self) -> u64
-        ensures { result ≡ stopNumber (stopOf self) }
+        ensures { result ≡ stop_number (stop_of self) }
     {
         match self {
             Stop::End => 0,

@@ -23,5 +23,5 @@ filled_more goal now i x f h e = record {
   ];
 }
 
-pub filled-all : (goal now : List ℕ) (i : ℕ) → Filled goal now i → length goal ≤ i → now ≡ goal
-filled-all goal now i f h = ext_get_or 0 now goal f.long (λ k q. f.agrees k (omega (arith, f.long)))
+pub filled_all : (goal now : List ℕ) (i : ℕ) → Filled goal now i → length goal ≤ i → now ≡ goal
+filled_all goal now i f h = ext_get_or 0 now goal f.long (λ k q. f.agrees k (omega (arith, f.long)))

@@ -1,6 +1,6 @@
 // The table with no run and no link, written section by section, each word once.
 ghost use Rattle.std.specs.Prelude.{◌+◌, ◌^◌, ◌≤◌, ◌<◌, length, ◌≡◌};
-ghost use Rattle.meaning.specs.Day.{emptyTable};
+ghost use Rattle.meaning.specs.Day.{empty_table};
 ghost use Rattle.table.specs.Within.{Within};
 ghost use Rattle.table.specs.Writing.{Writes, PlacesEmptied, CellsEmptied};
 
@@ -55,7 +55,7 @@ fn cells(store: &mut [u32], n: usize, c: usize)
 
 pub fn empty(store: &mut [u32], n: usize, c: usize)
     requires { Within n c store.old }
-    ensures { store.new ≡ emptyTable n c }
+    ensures { store.new ≡ empty_table n c }
 {
     places(store, n, c);
     cells(store, n, c);

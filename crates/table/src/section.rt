@@ -1,6 +1,6 @@
 // Where the words of each section stand, and one of them read as a number to count with.
 ghost use Rattle.std.specs.Prelude.{◌^◌, ◌≤◌, ◌<◌, length, ◌≡◌};
-ghost use Rattle.meaning.specs.Table.{word, headAt, length_at, ownerAt, targetAt, next_at, line_of, number_of, head_of, length_of, ownerOf, target_of, next_of};
+ghost use Rattle.meaning.specs.Table.{word, head_at, length_at, owner_at, target_at, next_at, line_of, number_of, head_of, length_of, owner_of, target_of, next_of};
 ghost use Rattle.terms.specs.Size.{InRoom};
 ghost use Rattle.table.specs.Within.{AtPlace, AtList, AtCell, named};
 
@@ -19,7 +19,7 @@ pub fn word(table: &[u32], i: usize) -> usize
 // Where a list's head word stands.
 pub fn head_at(n: usize, c: usize, v: usize) -> usize
     requires { InRoom n c × (v ≤ n) }
-    ensures { result ≡ headAt n c v }
+    ensures { result ≡ head_at n c v }
 {
     2 * n + v
 }
@@ -35,14 +35,14 @@ pub fn count_at(n: usize, c: usize, v: usize) -> usize
 // Where a cell's owner word stands, its target word, its next word.
 pub fn owner_at(n: usize, c: usize, i: usize) -> usize
     requires { InRoom n c × (i < c) }
-    ensures { result ≡ ownerAt n c i }
+    ensures { result ≡ owner_at n c i }
 {
     4 * n + 2 + i
 }
 
 pub fn target_at(n: usize, c: usize, i: usize) -> usize
     requires { InRoom n c × (i < c) }
-    ensures { result ≡ targetAt n c i }
+    ensures { result ≡ target_at n c i }
 {
     4 * n + 2 + c + i
 }
@@ -95,7 +95,7 @@ pub fn count(store: &[u32], n: usize, c: usize, v: usize) -> usize
 
 pub fn owner(store: &[u32], n: usize, c: usize, i: usize) -> usize
     requires { AtCell n c store.now i }
-    ensures { (result ≡ ownerOf n c store.now i) × (result < 2 ^ 32) }
+    ensures { (result ≡ owner_of n c store.now i) × (result < 2 ^ 32) }
 {
     word(store, owner_at(n, c, i))
 }

@@ -23,9 +23,9 @@ number_of CutShort = 13
 number_of BadSet = 14
 
 -- 0 is done
-abbrev pub refusalOf : Answer → ℕ
-refusalOf (Done k) = 0
-refusalOf (Refused why) = number_of why
+abbrev pub refusal_of : Answer → ℕ
+refusal_of (Done k) = 0
+refusal_of (Refused why) = number_of why
 
 -- a refused call returns number 0
 abbrev pub value_of : Answer → ℕ

@@ -3,16 +3,16 @@ use Rattle.std.specs.Prelude.{ℕ, Bool, ◌||◌, ◌&&◌, eqb, ltb}
 use Rattle.terms.specs.declared.run.Run.{Run}
 
 -- a line is 1 to 65,535; every trip number is an ordinary one
-abbrev pub lineMost : ℕ
-lineMost = 65535
+abbrev pub line_most : ℕ
+line_most = 65535
 
 -- a bad name has line 0 or a line above 65,535
-unfoldable pub badName : Run → Bool
-badName r = eqb r.line 0 || ltb lineMost r.line
+unfoldable pub bad_name : Run → Bool
+bad_name r = eqb r.line 0 || ltb line_most r.line
 
 -- two names are the same run where line and trip number agree
-unfoldable pub sameRun : Run → Run → Bool
-sameRun p q = eqb p.line q.line && eqb p.trip q.trip
+unfoldable pub same_run : Run → Run → Bool
+same_run p q = eqb p.line q.line && eqb p.trip q.trip
 
 -- what stands where there is no run
 abbrev pub no_run : Run

@@ -8,42 +8,42 @@ use Rattle.terms.specs.declared.size.Measured.{Measured}
 use Rattle.terms.specs.declared.size.Measured.TheVariants as measured
 
 -- places for runs: 1 to 4,096
-abbrev pub placesMost : ℕ
-placesMost = 4096
+abbrev pub places_most : ℕ
+places_most = 4096
 
 -- cells for links: 1 to 16,384
-abbrev pub cellsMost : ℕ
-cellsMost = 16384
+abbrev pub cells_most : ℕ
+cells_most = 16384
 
 pub record InRoom (n C : ℕ) : Type 0 where
-  pub places-least : 1 ≤ n
-  pub places-most : n ≤ placesMost
-  pub cells-least : 1 ≤ C
-  pub cells-most : C ≤ cellsMost
+  pub places_least : 1 ≤ n
+  pub places_at_most : n ≤ places_most
+  pub cells_least : 1 ≤ C
+  pub cells_at_most : C ≤ cells_most
 
 -- the list limit: 2 to 64
-abbrev pub limitMost : ℕ
-limitMost = 64
+abbrev pub limit_most : ℕ
+limit_most = 64
 
 pub record InLimit (D : ℕ) : Type 0 where
   pub least : 2 ≤ D
-  pub most : D ≤ limitMost
+  pub most : D ≤ limit_most
 
 -- the store has exactly 4n + 2 + 3C words, the spare the same
 abbrev pub store_words : ℕ → ℕ → ℕ
 store_words n C = 4 * n + 2 + 3 * C
 
 -- the waiting table has n words
-abbrev pub waitingWords : ℕ → ℕ
-waitingWords n = n
+abbrev pub waiting_words : ℕ → ℕ
+waiting_words n = n
 
 -- a stream has at most 983,025 bytes
-abbrev pub streamMost : ℕ
-streamMost = 983025
+abbrev pub stream_most : ℕ
+stream_most = 983025
 
 -- a running total is at most 2^62 on entry
-abbrev pub totalMost : ℕ
-totalMost = 2 ^ 62
+abbrev pub total_most : ℕ
+total_most = 2 ^ 62
 
 -- what Room::of answers: the room itself where both sizes are within their limits
 abbrev pub RoomTold : Roomed → ℕ → ℕ → Type 0
@@ -57,5 +57,5 @@ LimitTold limited.Outside D = InLimit D → ⊥
 
 -- what Length::of answers
 abbrev pub LengthTold : Measured → ℕ → Type 0
-LengthTold (measured.Within l) bytes = (l.bytes ≡ bytes) × (bytes ≤ streamMost)
-LengthTold measured.Outside bytes = bytes ≤ streamMost → ⊥
+LengthTold (measured.Within l) bytes = (l.bytes ≡ bytes) × (bytes ≤ stream_most)
+LengthTold measured.Outside bytes = bytes ≤ stream_most → ⊥

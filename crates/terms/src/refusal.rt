@@ -1,5 +1,5 @@
 // Why a call is refused, and what a call answers.
-ghost use Rattle.terms.specs.Refusal.{number_of, refusalOf, value_of};
+ghost use Rattle.terms.specs.Refusal.{number_of, refusal_of, value_of};
 ghost use Rattle.std.specs.Prelude.{◌≡◌};
 
 #[derive(Drop)]
@@ -67,7 +67,7 @@ pub enum Answer {
 impl Answer {
     // The refusal number, 0 where the call is done.
     pub fn refusal(self) -> u64
-        ensures { result ≡ refusalOf self }
+        ensures { result ≡ refusal_of self }
     {
         match self {
             Answer::Done(_) => 0,

@@ -1,5 +1,5 @@
 // A run is its line and its trip number together. Two runs are the same only where both agree.
-ghost use Rattle.terms.specs.Run.{badName, sameRun};
+ghost use Rattle.terms.specs.Run.{bad_name, same_run};
 ghost use Rattle.std.specs.Prelude.{◌≡◌};
 
 #[derive(Drop)]
@@ -13,7 +13,7 @@ impl Run {
 
     // No run has line 0 or a line above the most; every trip number is an ordinary one.
     pub fn is_bad(self) -> bool
-        ensures { result ≡ badName self }
+        ensures { result ≡ bad_name self }
     {
         if self.line == 0 {
             return true;
@@ -25,7 +25,7 @@ impl Run {
     }
 
     pub fn is(self, other: Run) -> bool
-        ensures { result ≡ sameRun self other }
+        ensures { result ≡ same_run self other }
     {
         if self.line != other.line {
             return false;

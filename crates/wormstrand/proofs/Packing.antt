@@ -4,7 +4,7 @@ use mathlib.Core.List.{List, [], ◌∷◌}
 use mathlib.Core.Path.{◌≡◌, refl, sym, ap, subst, ◌∙◌}
 use native.Mathlib.Omega.{arith}
 use lib.ListN.{get_or}
-use Rattle.terms.specs.Refusal.{number_of, refusalOf, value_of}
+use Rattle.terms.specs.Refusal.{number_of, refusal_of, value_of}
 use Rattle.terms.specs.declared.refusal.Refusal.{Refusal}
 use Rattle.terms.specs.declared.refusal.Refusal.TheVariants.{Sizes, Unsound, BadName, SameRun, NotOpen, Already, NoLink, NoRoom, TooDense, Touched, WrongMark, WrongKind, CutShort, BadSet}
 use Rattle.terms.specs.declared.refusal.Answer.{Answer}
@@ -40,38 +40,38 @@ numbered WrongKind = record { least = omega arith; most = omega arith; place = r
 numbered CutShort = record { least = omega arith; most = omega arith; place = refl }
 numbered BadSet = record { least = omega arith; most = omega arith; place = refl }
 
-number-own : (a b : Refusal) → number_of a ≡ number_of b → a ≡ b
-number-own a b e = sym (numbered a).place ∙ ap (λ (k : ℕ). get_or refusals (k - 1) Sizes) e ∙ (numbered b).place
+number_own : (a b : Refusal) → number_of a ≡ number_of b → a ≡ b
+number_own a b e = sym (numbered a).place ∙ ap (λ (k : ℕ). get_or refusals (k - 1) Sizes) e ∙ (numbered b).place
 
 -- an answer is its refusal number and its number
-pub answer-own : (a b : Answer) → refusalOf a ≡ refusalOf b → value_of a ≡ value_of b → a ≡ b
-answer-own (Done j) (Done k) e f = ap Done f
-answer-own (Done j) (Refused why) e f = absurd (omega (arith, (numbered why).least))
-answer-own (Refused why) (Done k) e f = absurd (omega (arith, (numbered why).least))
-answer-own (Refused a) (Refused b) e f = ap Refused (number-own a b e)
+pub answer_own : (a b : Answer) → refusal_of a ≡ refusal_of b → value_of a ≡ value_of b → a ≡ b
+answer_own (Done j) (Done k) e f = ap Done f
+answer_own (Done j) (Refused why) e f = absurd (omega (arith, (numbered why).least))
+answer_own (Refused why) (Done k) e f = absurd (omega (arith, (numbered why).least))
+answer_own (Refused a) (Refused b) e f = ap Refused (number_own a b e)
 
 -- ---- packing
 
-pub pack-done : (a : Answer) (k : ℕ) → a ≡ Done k → k ≡ pack a
-pack-done a k e = rw e (omega arith)
+pub pack_done : (a : Answer) (k : ℕ) → a ≡ Done k → k ≡ pack a
+pack_done a k e = rw e (omega arith)
 
-pub pack-refused : (a : Answer) (why : Refusal) (r : ℕ) → a ≡ Refused why → r ≡ number_of why → r * 2 ^ 32 ≡ pack a
-pack-refused a why r e f = rw (e, f) (omega arith)
+pub pack_refused : (a : Answer) (why : Refusal) (r : ℕ) → a ≡ Refused why → r ≡ number_of why → r * 2 ^ 32 ≡ pack a
+pack_refused a why r e f = rw (e, f) (omega arith)
 
 -- the upper half is the refusal and the lower half the number: so a caller takes a result apart
-pub unpack-refusal : (a : Answer) → Small a → pack a / 2 ^ 32 ≡ refusalOf a
-unpack-refusal a s = omega arith
+pub unpack_refusal : (a : Answer) → Small a → pack a / 2 ^ 32 ≡ refusal_of a
+unpack_refusal a s = omega arith
 
-pub unpack-number : (a : Answer) → Small a → pack a % 2 ^ 32 ≡ value_of a
-unpack-number a s = omega arith
+pub unpack_number : (a : Answer) → Small a → pack a % 2 ^ 32 ≡ value_of a
+unpack_number a s = omega arith
 
 -- two answers packed alike are one
-pub pack-own : (a b : Answer) → Small a → Small b → pack a ≡ pack b → a ≡ b
-pack-own a b s t e = answer-own a b (omega arith) (omega arith)
+pub pack_own : (a b : Answer) → Small a → Small b → pack a ≡ pack b → a ≡ b
+pack_own a b s t e = answer_own a b (omega arith) (omega arith)
 
 -- where two promises allow one answer between them, what is returned coincides, and the answer can be told from it
-pub packed-one : (P Q : Answer → Type 0) → ((a b : Answer) → P a → Q b → a ≡ b) → (r r' : ℕ) → Packed P r → Packed Q r' → r ≡ r'
-packed-one P Q one r r' p q = p.packed ∙ ap pack (one p.answer q.answer p.holds q.holds) ∙ sym q.packed
+pub packed_one : (P Q : Answer → Type 0) → ((a b : Answer) → P a → Q b → a ≡ b) → (r r' : ℕ) → Packed P r → Packed Q r' → r ≡ r'
+packed_one P Q one r r' p q = p.packed ∙ ap pack (one p.answer q.answer p.holds q.holds) ∙ sym q.packed
 
-pub packed-back : (P : Answer → Type 0) (a : Answer) (r : ℕ) → Small a → r ≡ pack a → Packed P r → P a
-packed-back P a r s e p = subst P (pack-own p.answer a p.small s (sym p.packed ∙ e)) p.holds
+pub packed_back : (P : Answer → Type 0) (a : Answer) (r : ℕ) → Small a → r ≡ pack a → Packed P r → P a
+packed_back P a r s e p = subst P (pack_own p.answer a p.small s (sym p.packed ∙ e)) p.holds

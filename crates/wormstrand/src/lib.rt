@@ -1,10 +1,10 @@
 // The calls for programs in C and Rust, under the names that include/wormstrand.h declares. Each passes on a public call and packs
 // its answer; it judges nothing and knows no table.
 ghost use Rattle.std.specs.Prelude.{◌^◌, ◌<◌, ◌≡◌};
-ghost use Rattle.meaning.specs.Calls.{openRun, closeRun, unlink, ask, reading};
+ghost use Rattle.meaning.specs.Calls.{open_run, close_run, unlink, ask, reading};
 ghost use Rattle.meaning.specs.Promise.{Promise, EmptyPromise, LinkPromise, StreamPromise};
 ghost use Rattle.stream.specs.Streamed.{tables, result_of};
-ghost use Rattle.wormstrand.specs.Pack.{named, pack, Packed, packResult, PackedResult};
+ghost use Rattle.wormstrand.specs.Pack.{named, pack, Packed, pack_result, PackedResult};
 
 use stream::Streamed;
 use stream::totals::Totals;
@@ -40,7 +40,7 @@ pub extern "C" fn ws_open(
     line: u32,
     trip: u32,
 ) -> u64
-    ensures { Packed (λ a. Promise n c d (openRun (named line trip)) store.old a store.new) result }
+    ensures { Packed (λ a. Promise n c d (open_run (named line trip)) store.old a store.new) result }
 {
     pack(calls::open(n, c, d, store, Run { line, trip }))
 }
@@ -54,7 +54,7 @@ pub extern "C" fn ws_close(
     line: u32,
     trip: u32,
 ) -> u64
-    ensures { Packed (λ a. Promise n c d (closeRun (named line trip)) store.old a store.new) result }
+    ensures { Packed (λ a. Promise n c d (close_run (named line trip)) store.old a store.new) result }
 {
     pack(calls::close(n, c, d, store, Run { line, trip }))
 }
@@ -143,7 +143,7 @@ pub extern "C" fn ws_reading(n: usize, c: usize, d: usize, store: &[u32], places
 // A stream that was stopped has both, a refusal and a number.
 fn pack_result(streamed: Streamed) -> u64
     requires { streamed.carried < 2 ^ 32 }
-    ensures { result ≡ packResult (result_of streamed) }
+    ensures { result ≡ pack_result (result_of streamed) }
 {
     let stop = streamed.stop;
     stop.number() * NUMBERS + streamed.carried as u64

@@ -1,5 +1,5 @@
 -- `calls::ask` meets its contract: what the verdict makes of the call. Assumes nothing.
-use Rattle.calls.proofs.Promising.{says-sound, promise-sizes, promise-unsound, promise-sound}
+use Rattle.calls.proofs.Promising.{says_sound, promise_sizes, promise_unsound, promise_sound}
 use borrow.Author.Rules.{rules}
 use Rattle.calls.proofs.ask.Statement.{statement}
 use Rattle.calls.proofs.ask.Tie as tie
@@ -17,19 +17,19 @@ enum-told-3 : tie.Need-enum-told-3
 enum-told-3 c = search rules
 
 ask-requires : tie.Need-ask-requires
-ask-requires c κs = says-sound _ _ _ _ _ c.before.before.judge.ensures c.enum-told3.given.1
+ask-requires c κs = says_sound _ _ _ _ _ c.before.before.judge.ensures c.enum-told3.given.1
 
 returns : tie.Need-returns
-returns c = promise-sizes _ _ _ _ _ _ c.before.before.judge.ensures c.enum_told.given.1
+returns c = promise_sizes _ _ _ _ _ _ c.before.before.judge.ensures c.enum_told.given.1
 
 returns-2 : tie.Need-returns-2
-returns-2 c = promise-unsound _ _ _ _ _ _ c.before.before.judge.ensures c.enum-told2.given.1
+returns-2 c = promise_unsound _ _ _ _ _ _ c.before.before.judge.ensures c.enum-told2.given.1
 
 returns-3 : tie.Need-returns-3
-returns-3 c = promise-sound _ _ _ _ _ _ c.before.before.before.judge.ensures c.before.enum-told3.given.1 _ _ c.ask.ensures
+returns-3 c = promise_sound _ _ _ _ _ _ c.before.before.before.judge.ensures c.before.enum-told3.given.1 _ _ c.ask.ensures
 
-pub ask-spec : {M : Type 1} → statement M
-ask-spec =
+pub ask_spec : {M : Type 1} → statement M
+ask_spec =
     tie.close
     (tie.spec
     judge-requires

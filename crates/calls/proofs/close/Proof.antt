@@ -1,5 +1,5 @@
 -- `calls::close` meets its contract: what the verdict makes of the call. Assumes nothing.
-use Rattle.calls.proofs.Promising.{says-sound, promise-sizes, promise-unsound, promise-sound}
+use Rattle.calls.proofs.Promising.{says_sound, promise_sizes, promise_unsound, promise_sound}
 use borrow.Author.Rules.{rules}
 use Rattle.calls.proofs.close.Statement.{statement}
 use Rattle.calls.proofs.close.Tie as tie
@@ -17,26 +17,26 @@ enum-told-3 : tie.Need-enum-told-3
 enum-told-3 c = search rules
 
 close-requires : tie.Need-close-requires
-close-requires c κs = says-sound _ _ _ _ _ c.before.before.before.judge.ensures c.before.enum-told3.given.1
+close-requires c κs = says_sound _ _ _ _ _ c.before.before.before.judge.ensures c.before.enum-told3.given.1
 
 same_length : tie.Need-same-length
 same_length c = search rules
 
 returns : tie.Need-returns
-returns c = promise-sizes _ _ _ _ _ _ c.before.before.judge.ensures c.enum_told.given.1
+returns c = promise_sizes _ _ _ _ _ _ c.before.before.judge.ensures c.enum_told.given.1
 
 same-length-2 : tie.Need-same-length-2
 same-length-2 c = search rules
 
 returns-2 : tie.Need-returns-2
-returns-2 c = promise-unsound _ _ _ _ _ _ c.before.before.judge.ensures c.enum-told2.given.1
+returns-2 c = promise_unsound _ _ _ _ _ _ c.before.before.judge.ensures c.enum-told2.given.1
 
 same-length-3 : tie.Need-same-length-3
 same-length-3 c = search rules
 
 returns-3 : tie.Need-returns-3
 returns-3 c =
-    promise-sound _ _ _ _ _ _ c.before.before.before.before.before.before.judge.ensures
+    promise_sound _ _ _ _ _ _ c.before.before.before.before.before.before.judge.ensures
     c.before.before.before.before.enum-told3.given.1 _ _ c.before.before.close.ensures
 
 pub close_spec : {M : Type 1} → statement M

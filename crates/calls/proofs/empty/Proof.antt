@@ -1,5 +1,5 @@
 -- `calls::empty` meets its contract: what the sizes and the length make of the call. Assumes nothing.
-use Rattle.calls.proofs.Promising.{empty-outside, own_room, empty-short, empty-within, empty-done}
+use Rattle.calls.proofs.Promising.{empty_outside, own_room, empty_short, empty_within, empty_done}
 use borrow.Author.Rules.{rules}
 use Rattle.calls.proofs.empty.Statement.{statement}
 use Rattle.calls.proofs.empty.Tie as tie
@@ -18,29 +18,29 @@ store-words-requires c κs = own_room _ _ _ c.before.before.before.of.ensures _ 
 
 returns : tie.Need-returns
 returns c =
-    empty-short _ _ _ _ c.before.before.before.before.before.of.ensures _ c.before.before.before.room.given.1 _
+    empty_short _ _ _ _ c.before.before.before.before.before.of.ensures _ c.before.before.before.room.given.1 _
     c.before.store_words_lem.ensures c.if1.true
 
 empty-requires : tie.Need-empty-requires
 empty-requires c κs =
-    empty-within _ _ _ _ c.before.before.before.before.before.before.of.ensures _ c.before.before.before.before.room.given.1
+    empty_within _ _ _ _ c.before.before.before.before.before.before.of.ensures _ c.before.before.before.before.room.given.1
     _ c.before.before.store_words_lem.ensures c.before.if1.false
 
 returns-2 : tie.Need-returns-2
-returns-2 c = empty-outside _ _ _ _ c.before.before.of.ensures c.enum_told.given.1
+returns-2 c = empty_outside _ _ _ _ c.before.before.of.ensures c.enum_told.given.1
 
 same_length : tie.Need-same-length
 same_length c = search rules
 
 returns-3 : tie.Need-returns-3
 returns-3 c =
-    empty-done _ _ _ _ c.before.before.before.before.before.before.before.before.before.of.ensures _
+    empty_done _ _ _ _ c.before.before.before.before.before.before.before.before.before.of.ensures _
     c.before.before.before.before.before.before.before.room.given.1 _
     c.before.before.before.before.before.store_words_lem.ensures c.before.before.before.before.if1.false _
     c.before.before.empty.ensures
 
-pub empty-spec : {M : Type 1} → statement M
-empty-spec =
+pub empty_spec : {M : Type 1} → statement M
+empty_spec =
     tie.close
     (tie.spec
     of-requires

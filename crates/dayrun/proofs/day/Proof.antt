@@ -1,5 +1,5 @@
 -- `dayrun::day` is safe: what ran has at most one line for fifteen bytes. Assumes nothing.
-use Rattle.dayrun.proofs.Days.{lines-within, words-within}
+use Rattle.dayrun.proofs.Days.{lines_within, words_within}
 use native.Mathlib.Omega.{arith}
 use borrow.Author.Rules.{rules}
 use Rattle.dayrun.proofs.day.Statement.{statement}
@@ -16,7 +16,7 @@ slice-aggregate-print-records c = search rules
 
 print-records-requires : tie.Need-print-records-requires
 print-records-requires c κs =
-    (lines-within _ _ _ _ c.before.before.run-day.ensures, omega (arith, words-within _ _ _ _ c.before.before.run-day.ensures c.before.before.before.before.before.requires, c.before.before.run-day.auto.1.0))
+    (lines_within _ _ _ _ c.before.before.run-day.ensures, omega (arith, words_within _ _ _ _ c.before.before.run-day.ensures c.before.before.before.before.before.requires, c.before.before.run-day.auto.1.0))
 
 print-end-requires : tie.Need-print-end-requires
 print-end-requires c κs = search rules
@@ -24,8 +24,8 @@ print-end-requires c κs = search rules
 returns : tie.Need-returns
 returns c = search rules
 
-pub day-spec : {M : Type 1} → statement M
-day-spec =
+pub day_spec : {M : Type 1} → statement M
+day_spec =
     tie.close
     (tie.spec
     slice-aggregate-run-day

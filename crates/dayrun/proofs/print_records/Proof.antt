@@ -1,14 +1,14 @@
 -- `dayrun::print_records` is safe and ends: both tables have each record's words. Assumes nothing.
 use Prim.Native.Nat.{◌*◌, ◌-◌, ◌≤◌}
 use lib.ListN.{length}
-use Rattle.record.specs.Bytes.{recordBytes}
+use Rattle.record.specs.Bytes.{record_bytes}
 use borrow.Author.Rules.{rules}
 use native.Mathlib.Omega.{arith}
 use Rattle.dayrun.proofs.print_records.Statement.{statement}
 use Rattle.dayrun.proofs.print_records.Tie as tie
 
 abbrev invariant-loop : tie.invariant-loop
-invariant-loop bytes answers carried i₀ i = (recordBytes * carried ≤ length bytes) × (2 * carried ≤ length answers)
+invariant-loop bytes answers carried i₀ i = (record_bytes * carried ≤ length bytes) × (2 * carried ≤ length answers)
 
 abbrev decreases-loop : tie.decreases-loop
 decreases-loop bytes answers carried i₀ i = carried - i
@@ -34,8 +34,8 @@ loop-again c = search rules
 returns : tie.Need-returns invariant-loop decreases-loop
 returns c = search rules
 
-pub print-records-spec : {M : Type 1} → statement M
-print-records-spec =
+pub print_records_spec : {M : Type 1} → statement M
+print_records_spec =
     tie.close
     (tie.spec
     invariant-loop

@@ -1,6 +1,6 @@
 -- `dayrun::record_line` meets its contract: each number is read from its own place. Assumes nothing.
 use Prim.Native.Nat.{◌+◌, ◌*◌}
-use Rattle.record.specs.Bytes.{recordBytes, kind_at}
+use Rattle.record.specs.Bytes.{record_bytes, kind_at}
 use native.Mathlib.Omega.{arith}
 use borrow.Author.Rules.{rules}
 use Rattle.dayrun.proofs.record_line.Statement.{statement}
@@ -40,7 +40,7 @@ add-t16 : tie.Need-overflow-add-t16
 add-t16 c = search rules
 
 cast-t17 : tie.Need-overflow-cast-t17
-cast-t17 c = omega (arith, c.before.before.shared-slice-known.given (recordBytes * c.before.before.before.args.i + kind_at))
+cast-t17 c = omega (arith, c.before.before.shared-slice-known.given (record_bytes * c.before.before.before.args.i + kind_at))
 
 cast-t18 : tie.Need-overflow-cast-t18
 cast-t18 c = omega (arith, c.before.shared-slice-known2.given (2 * c.before.before.before.args.i))
@@ -51,8 +51,8 @@ cast-t19 c = omega (arith, c.shared-slice-known3.given (2 * c.before.before.befo
 returns : tie.Need-returns
 returns c = search rules
 
-pub record-line-spec : {M : Type 1} → statement M
-record-line-spec =
+pub record_line_spec : {M : Type 1} → statement M
+record_line_spec =
     tie.close
     (tie.spec
     mul-kind

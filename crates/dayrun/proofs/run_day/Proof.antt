@@ -38,8 +38,8 @@ same_length c = search rules
 returns : tie.Need-returns
 returns c = ran _ _ _ _ _ _ _ _ c.before.before.before.before.before.before.before.before.before.stream.result _ _ _ _ c.before.before.before.before.before.before.before.before.before.before.before.before.before.before.before.before.before.before.before.requires.0 c.before.before.before.before.before.before.before.before.before.before.before.before.before.before.before.before.before.before.before.requires.1 refl refl refl refl refl c.before.before.before.before.before.before.before.before.before.before.before.before.before.before.before.empty.ensures c.before.before.before.before.before.before.before.before.before.stream.ensures _ _ c.before.before.number.ensures c.standing.ensures
 
-pub run-day-spec : {M : Type 1} → statement M
-run-day-spec =
+pub run_day_spec : {M : Type 1} → statement M
+run_day_spec =
     tie.close
     (tie.spec
     slice-aggregate-empty

@@ -1,5 +1,5 @@
 -- `find::free_place` meets its contract: no place passed is free. Assumes nothing.
-use Rattle.find.proofs.Finding.{Taken, taken_start, taken_more, free-here, free-nowhere}
+use Rattle.find.proofs.Finding.{Taken, taken_start, taken_more, free_here, free_nowhere}
 use Prim.Native.Nat.{◌-◌}
 use borrow.Author.Rules.{rules}
 use native.Mathlib.Omega.{arith}
@@ -19,7 +19,7 @@ line-requires : tie.Need-line-requires invariant-loop decreases-loop
 line-requires c κs = search rules
 
 returns : tie.Need-returns invariant-loop decreases-loop
-returns c = (free-here _ _ _ _ _ c.before.before.before.loop.invariant c.before.before.loop-test.true c.before.line.ensures.0 c.if1.true, omega arith)
+returns c = (free_here _ _ _ _ _ c.before.before.before.loop.invariant c.before.before.loop-test.true c.before.line.ensures.0 c.if1.true, omega arith)
 
 add-lowest : tie.Need-overflow-add-lowest invariant-loop decreases-loop
 add-lowest c = search rules
@@ -31,10 +31,10 @@ loop-again : tie.Need-loop-preserved invariant-loop decreases-loop
 loop-again c = taken_more _ _ _ _ _ c.before.before.before.loop.invariant c.before.before.loop-test.true c.before.line.ensures.0 c.if1.false
 
 returns-2 : tie.Need-returns-2 invariant-loop decreases-loop
-returns-2 c = (free-nowhere _ _ _ _ c.before.loop.invariant c.loop-test.false, omega arith)
+returns-2 c = (free_nowhere _ _ _ _ c.before.loop.invariant c.loop-test.false, omega arith)
 
-pub free-place-spec : {M : Type 1} → statement M
-free-place-spec =
+pub free_place_spec : {M : Type 1} → statement M
+free_place_spec =
     tie.close
     (tie.spec
     invariant-loop

@@ -1,5 +1,5 @@
 -- `judge::place` meets its contract, test by test. Assumes nothing.
-use Rattle.terms.proofs.Told.{passed, failed, tells-iff}
+use Rattle.terms.proofs.Told.{passed, failed, tells_iff}
 use borrow.Author.Rules.{rules}
 use Rattle.judge.proofs.place.Statement.{statement}
 use Rattle.judge.proofs.place.Tie as tie
@@ -33,7 +33,7 @@ returns-3 c =
     let lined = c.before.before.before.before.before.before in
     let start = c.before.before.before.before.head.ensures.0 in
     let many = c.before.before.before.count.ensures.0 in
-    tells-iff
+    tells_iff
     (λ p. record {
       line = passed lined.line.result c.before.before.before.before.before.if1.false lined.line.ensures;
       walks = rw (start, many) at (passed walked.walk.result c.before.if2.false walked.walk.ensures);
@@ -41,8 +41,8 @@ returns-3 c =
     })
     (λ h. rw (start, many) h.alone) c.alone.result c.alone.ensures
 
-pub place-spec : {M : Type 1} → statement M
-place-spec =
+pub place_spec : {M : Type 1} → statement M
+place_spec =
     tie.close
     (tie.spec
     line-requires

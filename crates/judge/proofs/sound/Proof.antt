@@ -1,5 +1,5 @@
 -- `judge::sound` meets its contract: the tests together are the judge's whole test. Assumes nothing.
-use Rattle.terms.proofs.Told.{passed, failed, tells-iff}
+use Rattle.terms.proofs.Told.{passed, failed, tells_iff}
 use borrow.Author.Rules.{rules}
 use Rattle.judge.proofs.sound.Statement.{statement}
 use Rattle.judge.proofs.sound.Tie as tie
@@ -40,7 +40,7 @@ returns-4 c =
     let headed = walked.before.before in
     let added = headed.before.before in
     let fresh = passed named.names.result c.before.if3.false named.names.ensures in
-    tells-iff
+    tells_iff
     (λ p. record {
       lengths = passed added.lengths.result headed.before.if1.false added.lengths.ensures;
       free = rw (headed.head.ensures.0, walked.before.count.ensures.0) at (passed walked.walk.result named.before.if2.false walked.walk.ensures);
@@ -48,8 +48,8 @@ returns-4 c =
     })
     (λ h v q. record { line = (h.places v q).line; walks = (h.places v q).walks; alone = (h.places v q).alone }) c.places.result c.places.ensures
 
-pub sound-spec : {M : Type 1} → statement M
-sound-spec =
+pub sound_spec : {M : Type 1} → statement M
+sound_spec =
     tie.close
     (tie.spec
     lengths-requires

@@ -1,5 +1,5 @@
 -- `stream::carry_all` meets its contract: what is left of the bytes comes to the whole. Assumes nothing.
-use Rattle.stream.proofs.Streaming.{Going, going_start, going_step, going-few, going_next, going_end, going-stop}
+use Rattle.stream.proofs.Streaming.{Going, going_start, going_step, going_few, going_next, going_end, going_stop}
 use Rattle.stream.specs.Streamed.{tables}
 use mathlib.Core.Path.{refl}
 use lib.ListN.{length}
@@ -43,13 +43,13 @@ step-requires : tie.Need-step-requires invariant-loop decreases-loop
 step-requires c κs = going_step _ _ _ _ _ _ _ _ _ _ _ _ c.before.before.before.before.before.before.before.before.before.loop.invariant _ refl _ _ c.before.before.before.before.before.before.before.read.ensures c.before.before.before.before.before.rec.given.1
 
 add-carried : tie.Need-overflow-add-carried invariant-loop decreases-loop
-add-carried c = omega (arith, (going-few _ _ _ _ _ _ _ _ _ _ _ _ c.before.before.before.before.before.before.before.before.before.before.before.before.before.before.before.before.before.before.loop.invariant _ refl _ _ c.before.before.before.before.before.before.before.before.before.before.before.before.before.before.before.before.read.ensures c.before.before.before.before.before.before.before.before.before.before.before.before.before.before.rec.given.1).0)
+add-carried c = omega (arith, (going_few _ _ _ _ _ _ _ _ _ _ _ _ c.before.before.before.before.before.before.before.before.before.before.before.before.before.before.before.before.before.before.loop.invariant _ refl _ _ c.before.before.before.before.before.before.before.before.before.before.before.before.before.before.before.before.read.ensures c.before.before.before.before.before.before.before.before.before.before.before.before.before.before.rec.given.1).0)
 
 add_at : tie.Need-overflow-add-at invariant-loop decreases-loop
-add_at c = omega (arith, (going-few _ _ _ _ _ _ _ _ _ _ _ _ c.before.before.before.before.before.before.before.before.before.before.before.before.before.before.before.before.before.before.loop.invariant _ refl _ _ c.before.before.before.before.before.before.before.before.before.before.before.before.before.before.before.before.read.ensures c.before.before.before.before.before.before.before.before.before.before.before.before.before.before.rec.given.1).1)
+add_at c = omega (arith, (going_few _ _ _ _ _ _ _ _ _ _ _ _ c.before.before.before.before.before.before.before.before.before.before.before.before.before.before.before.before.before.before.loop.invariant _ refl _ _ c.before.before.before.before.before.before.before.before.before.before.before.before.before.before.before.before.read.ensures c.before.before.before.before.before.before.before.before.before.before.before.before.before.before.rec.given.1).1)
 
 loop-less : tie.Need-loop-smaller invariant-loop decreases-loop
-loop-less c = omega (arith, (going-few _ _ _ _ _ _ _ _ _ _ _ _ c.before.before.before.before.before.before.before.before.before.before.before.before.before.before.before.before.before.before.loop.invariant _ refl _ _ c.before.before.before.before.before.before.before.before.before.before.before.before.before.before.before.before.read.ensures c.before.before.before.before.before.before.before.before.before.before.before.before.before.before.rec.given.1).1)
+loop-less c = omega (arith, (going_few _ _ _ _ _ _ _ _ _ _ _ _ c.before.before.before.before.before.before.before.before.before.before.before.before.before.before.before.before.before.before.loop.invariant _ refl _ _ c.before.before.before.before.before.before.before.before.before.before.before.before.before.before.before.before.read.ensures c.before.before.before.before.before.before.before.before.before.before.before.before.before.before.rec.given.1).1)
 
 loop-again : tie.Need-loop-preserved invariant-loop decreases-loop
 loop-again c = going_next _ _ _ _ _ _ _ _ _ _ _ _ c.before.before.before.before.before.before.before.before.before.before.before.before.before.before.before.before.before.before.loop.invariant _ refl _ _ c.before.before.before.before.before.before.before.before.before.before.before.before.before.before.before.before.read.ensures c.before.before.before.before.before.before.before.before.before.before.before.before.before.before.rec.given.1 _ _ _ _ _ c.before.before.before.before.before.before.before.before.step.ensures
@@ -82,10 +82,10 @@ same-length-8 : tie.Need-same-length-8 invariant-loop decreases-loop
 same-length-8 c = search rules
 
 returns-2 : tie.Need-returns-2 invariant-loop decreases-loop
-returns-2 c = going-stop _ _ _ _ _ _ _ _ _ _ _ _ c.before.before.before.before.before.loop.invariant _ refl _ c.before.before.before.read.ensures _ c.before.why.given.1
+returns-2 c = going_stop _ _ _ _ _ _ _ _ _ _ _ _ c.before.before.before.before.before.loop.invariant _ refl _ c.before.before.before.read.ensures _ c.before.why.given.1
 
-pub carry-all-spec : {M : Type 1} → statement M
-carry-all-spec =
+pub carry_all_spec : {M : Type 1} → statement M
+carry_all_spec =
     tie.close
     (tie.spec
     invariant-loop

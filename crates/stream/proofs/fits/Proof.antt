@@ -1,5 +1,5 @@
 -- `stream::fits` meets its contract. Assumes nothing.
-use Rattle.stream.proofs.Promising.{too_long, not-too-long}
+use Rattle.stream.proofs.Promising.{too_long, not_too_long}
 use native.Mathlib.Omega.{arith}
 use borrow.Author.Rules.{rules}
 use Rattle.stream.proofs.fits.Statement.{statement}
@@ -36,10 +36,10 @@ returns-6 : tie.Need-returns-6
 returns-6 c = search rules
 
 returns-7 : tie.Need-returns-7
-returns-7 c = let h = not-too-long _ _ _ c.before.before.before.before.before.before.before.of.ensures c.before.before.before.before.before.enum-told2.given.1 in record { spare-long = search rules; waiting-long = search rules; short = h; answers-long = omega arith; accepted-most = omega arith; reversals-most = omega arith }
+returns-7 c = let h = not_too_long _ _ _ c.before.before.before.before.before.before.before.of.ensures c.before.before.before.before.before.enum-told2.given.1 in record { spare_long = search rules; waiting_long = search rules; short = h; answers_long = omega arith; accepted_most = omega arith; reversals_most = omega arith }
 
-pub fits-spec : {M : Type 1} → statement M
-fits-spec =
+pub fits_spec : {M : Type 1} → statement M
+fits_spec =
     tie.close
     (tie.spec
     returns

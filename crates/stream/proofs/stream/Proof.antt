@@ -1,5 +1,5 @@
 -- `stream::stream` meets its contract: each way out is the law of its case. Assumes nothing.
-use Rattle.stream.proofs.Promising.{unfit, wrong-sizes, not_sound, is-sound, carried-out}
+use Rattle.stream.proofs.Promising.{unfit, wrong_sizes, not_sound, is_sound, carried_out}
 use native.Mathlib.Omega.{arith}
 use borrow.Author.Rules.{rules}
 use Rattle.stream.proofs.stream.Statement.{statement}
@@ -33,13 +33,13 @@ enum-told-3 : tie.Need-enum-told-3
 enum-told-3 c = search rules
 
 carry-all-requires : tie.Need-carry-all-requires
-carry-all-requires c κs = is-sound _ _ _ _ _ _ _ _ _ c.before.before.before.before.before.before.before.before.before.fits2.result c.before.before.before.before.before.before.before.before.before.fits2.ensures c.before.before.before.before.before.before.before.before.if1.false c.before.before.before.before.before.before.judge.result c.before.before.before.before.before.before.judge.ensures c.before.before.before.before.enum-told3.given.1
+carry-all-requires c κs = is_sound _ _ _ _ _ _ _ _ _ c.before.before.before.before.before.before.before.before.before.fits2.result c.before.before.before.before.before.before.before.before.before.fits2.ensures c.before.before.before.before.before.before.before.before.if1.false c.before.before.before.before.before.before.judge.result c.before.before.before.before.before.before.judge.ensures c.before.before.before.before.enum-told3.given.1
 
 same_length : tie.Need-same-length
 same_length c = search rules
 
 returns-2 : tie.Need-returns-2
-returns-2 c = wrong-sizes _ _ _ _ _ _ _ _ _ c.before.before.before.before.before.before.fits2.result c.before.before.before.before.before.before.fits2.ensures c.before.before.before.before.before.if1.false c.before.before.before.judge.result c.before.before.before.judge.ensures _ c.before.enum_told.given.1 c.refused2.ensures
+returns-2 c = wrong_sizes _ _ _ _ _ _ _ _ _ c.before.before.before.before.before.before.fits2.result c.before.before.before.before.before.before.fits2.ensures c.before.before.before.before.before.if1.false c.before.before.before.judge.result c.before.before.before.judge.ensures _ c.before.enum_told.given.1 c.refused2.ensures
 
 same-length-2 : tie.Need-same-length-2
 same-length-2 c = search rules
@@ -60,10 +60,10 @@ same-length-6 : tie.Need-same-length-6
 same-length-6 c = search rules
 
 returns-4 : tie.Need-returns-4
-returns-4 c = carried-out _ _ _ _ _ _ _ _ _ c.before.before.before.before.before.before.before.before.before.before.before.before.before.before.before.before.before.before.fits2.result c.before.before.before.before.before.before.before.before.before.before.before.before.before.before.before.before.before.before.fits2.ensures c.before.before.before.before.before.before.before.before.before.before.before.before.before.before.before.before.before.if1.false c.before.before.before.before.before.before.before.before.before.before.before.before.before.before.before.judge.result c.before.before.before.before.before.before.before.before.before.before.before.before.before.before.before.judge.ensures c.before.before.before.before.before.before.before.before.before.before.before.before.before.enum-told3.given.1 c.before.before.before.before.before.before.before.before.carry-all.result _ c.before.before.before.before.before.before.before.before.carry-all.ensures
+returns-4 c = carried_out _ _ _ _ _ _ _ _ _ c.before.before.before.before.before.before.before.before.before.before.before.before.before.before.before.before.before.before.fits2.result c.before.before.before.before.before.before.before.before.before.before.before.before.before.before.before.before.before.before.fits2.ensures c.before.before.before.before.before.before.before.before.before.before.before.before.before.before.before.before.before.if1.false c.before.before.before.before.before.before.before.before.before.before.before.before.before.before.before.judge.result c.before.before.before.before.before.before.before.before.before.before.before.before.before.before.before.judge.ensures c.before.before.before.before.before.before.before.before.before.before.before.before.before.enum-told3.given.1 c.before.before.before.before.before.before.before.before.carry-all.result _ c.before.before.before.before.before.before.before.before.carry-all.ensures
 
-pub stream-spec : {M : Type 1} → statement M
-stream-spec =
+pub stream_spec : {M : Type 1} → statement M
+stream_spec =
     tie.close
     (tie.spec
     fits-requires

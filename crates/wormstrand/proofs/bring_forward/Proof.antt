@@ -1,5 +1,5 @@
 -- `wormstrand::bring_forward` meets its contract: the stream promises a result, and its packing is returned. Assumes nothing.
-use Rattle.wormstrand.proofs.Streams.{carried-small, result-packed}
+use Rattle.wormstrand.proofs.Streams.{carried_small, result_packed}
 use borrow.Author.Rules.{rules}
 use Rattle.wormstrand.proofs.bring_forward.Statement.{statement}
 use Rattle.wormstrand.proofs.bring_forward.Tie as tie
@@ -8,7 +8,7 @@ stream-requires : tie.Need-stream-requires
 stream-requires c κs = search rules
 
 pack-result-requires : tie.Need-pack-result-requires
-pack-result-requires c κs = carried-small _ _ _ _ _ _ _ c.before.before.before.before.before.before.before.before.before.stream.ensures
+pack-result-requires c κs = carried_small _ _ _ _ _ _ _ c.before.before.before.before.before.before.before.before.before.stream.ensures
 
 same_length : tie.Need-same-length
 same_length c = search rules
@@ -24,11 +24,11 @@ same-length-4 c = search rules
 
 returns : tie.Need-returns
 returns c =
-    result-packed _ _ _ _ _ _ c.before.before.before.before.before.before.before.before.before.before.stream.result _
+    result_packed _ _ _ _ _ _ c.before.before.before.before.before.before.before.before.before.before.stream.result _
     c.before.before.before.before.before.before.before.before.before.before.stream.ensures c.pack-result.ensures
 
-pub bring-forward-spec : {M : Type 1} → statement M
-bring-forward-spec =
+pub bring_forward_spec : {M : Type 1} → statement M
+bring_forward_spec =
     tie.close
     (tie.spec
     stream-requires

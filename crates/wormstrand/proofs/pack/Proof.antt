@@ -1,5 +1,5 @@
 -- `wormstrand::pack` meets its contract: each case of an answer is packed by its law. Assumes nothing.
-use Rattle.wormstrand.proofs.Packing.{numbered, pack-done, pack-refused}
+use Rattle.wormstrand.proofs.Packing.{numbered, pack_done, pack_refused}
 use native.Mathlib.Omega.{arith}
 use borrow.Author.Rules.{rules}
 use Rattle.wormstrand.proofs.pack.Statement.{statement}
@@ -26,13 +26,13 @@ mul-result c = omega (arith, (numbered c.before.before.answer2.given.0.0).most, 
 
 -- src/lib.rt:11:1
 returns : tie.Need-returns
-returns c = pack-done _ _ c.before.answer.given.1
+returns c = pack_done _ _ c.before.answer.given.1
 
 -- src/lib.rt:11:1
 returns-2 : tie.Need-returns-2
-returns-2 c = pack-refused _ _ _ c.before.before.answer2.given.1 c.number.ensures
+returns-2 c = pack_refused _ _ _ c.before.before.answer2.given.1 c.number.ensures
 
-pub pack-spec : {M : Type 1} → statement M
-pack-spec =
+pub pack_spec : {M : Type 1} → statement M
+pack_spec =
     tie.close
     (tie.spec enum-known-answer enum-known-answer-2 number-requires mul-result returns returns-2)

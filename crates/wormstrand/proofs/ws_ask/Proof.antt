@@ -13,5 +13,5 @@ pack-requires c κs = search rules
 returns : tie.Need-returns
 returns c = packed _ _ _ _ _ _ _ _ c.before.ask.ensures c.pack.ensures
 
-pub ws-ask-spec : {M : Type 1} → statement M
-ws-ask-spec = tie.close (tie.spec ask-requires pack-requires returns)
+pub ws_ask_spec : {M : Type 1} → statement M
+ws_ask_spec = tie.close (tie.spec ask-requires pack-requires returns)

@@ -16,5 +16,5 @@ same_length c = search rules
 returns : tie.Need-returns
 returns c = packed _ _ _ _ _ _ _ _ c.before.before.before.close.ensures c.pack.ensures
 
-pub ws-close-spec : {M : Type 1} → statement M
-ws-close-spec = tie.close (tie.spec close-requires pack-requires same_length returns)
+pub ws_close_spec : {M : Type 1} → statement M
+ws_close_spec = tie.close (tie.spec close-requires pack-requires same_length returns)

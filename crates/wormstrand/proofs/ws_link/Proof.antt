@@ -1,5 +1,5 @@
 -- `wormstrand::ws_link` meets its contract: the public call promises an answer, and its packing is returned. Assumes nothing.
-use Rattle.wormstrand.proofs.Returning.{link-packed}
+use Rattle.wormstrand.proofs.Returning.{link_packed}
 use borrow.Author.Rules.{rules}
 use Rattle.wormstrand.proofs.ws_link.Statement.{statement}
 use Rattle.wormstrand.proofs.ws_link.Tie as tie
@@ -20,9 +20,9 @@ same-length-3 : tie.Need-same-length-3
 same-length-3 c = search rules
 
 returns : tie.Need-returns
-returns c = link-packed _ _ _ _ _ _ _ _ _ _ _ _ _ c.before.before.before.before.before.before.before.link.ensures c.pack.ensures
+returns c = link_packed _ _ _ _ _ _ _ _ _ _ _ _ _ c.before.before.before.before.before.before.before.link.ensures c.pack.ensures
 
-pub ws-link-spec : {M : Type 1} → statement M
-ws-link-spec =
+pub ws_link_spec : {M : Type 1} → statement M
+ws_link_spec =
     tie.close
     (tie.spec link-requires pack-requires same_length same-length-2 same-length-3 returns)

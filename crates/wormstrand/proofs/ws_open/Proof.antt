@@ -16,5 +16,5 @@ same_length c = search rules
 returns : tie.Need-returns
 returns c = packed _ _ _ _ _ _ _ _ c.before.before.before.«open».ensures c.pack.ensures
 
-pub ws-open-spec : {M : Type 1} → statement M
-ws-open-spec = tie.close (tie.spec open-requires pack-requires same_length returns)
+pub ws_open_spec : {M : Type 1} → statement M
+ws_open_spec = tie.close (tie.spec open-requires pack-requires same_length returns)

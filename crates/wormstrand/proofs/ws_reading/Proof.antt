@@ -13,5 +13,5 @@ pack-requires c κs = search rules
 returns : tie.Need-returns
 returns c = packed _ _ _ _ _ _ _ _ c.before.reading.ensures c.pack.ensures
 
-pub ws-reading-spec : {M : Type 1} → statement M
-ws-reading-spec = tie.close (tie.spec reading-requires pack-requires returns)
+pub ws_reading_spec : {M : Type 1} → statement M
+ws_reading_spec = tie.close (tie.spec reading-requires pack-requires returns)

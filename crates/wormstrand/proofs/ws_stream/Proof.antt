@@ -179,8 +179,8 @@ module _ {M : Type 1} {𝓤 : Ura M} (𝓛 : Logic 𝓤) (at_mem : Memory → SP
       -- [what is lent; bs; obs; the borrow; true; κ₅'s token]
       move ! (4 ∷ []) $ drop ! $ frame ! $ frame ! $ frame ! $ frame ! $ done !
 
-  abbrev to-bring : (Bring 𝓛 at_mem run).Ghost
-  to-bring = (
+  abbrev to_bring : (Bring 𝓛 at_mem run).Ghost
+  to_bring = (
     (
       (κ₀, (κ₁, (κ₂, (κ₃, (κ₄, tt))))),
       (q₀, (q₁, (q₂, (q₃, (q₄, tt))))),
@@ -191,8 +191,8 @@ module _ {M : Type 1} {𝓤 : Ura M} (𝓛 : Logic 𝓤) (at_mem : Memory → SP
     tt,
   )
 
-  goes-bring : Is T.the_row h (mach h ∷ []) → ent 𝓤 (mean 𝓛 Lends) ((Bring 𝓛 at_mem run).pre to-bring)
-  goes-bring was =
+  goes_bring : Is T.the_row h (mach h ∷ []) → ent 𝓤 (mean 𝓛 Lends) ((Bring 𝓛 at_mem run).pre to_bring)
+  goes_bring was =
       qed 𝓛 (Lends ∷ []) ∵ split ! $ move ! (1 ∷ []) $ split ! $ move ! (1 ∷ []) $ split ! $ move ! (1 ∷ []) $ split ! $ move ! (1 ∷ []) $ split ! $
       -- [bs; an; wt; sp; st; the tokens]
       nothing ! $ owned ! T.the_row (Is T.the_row) ((LL.makes T.the_type T'.the_plain) 𝓛) h _ was $ fjoin ! $
@@ -264,8 +264,8 @@ module _ {M : Type 1} {𝓤 : Ura M} (𝓛 : Logic 𝓤) (at_mem : Memory → SP
         move ! (1 ∷ []) $ peeks ! T.the_row (Is T.the_row) (shows 𝓛 T.the_row) h (LL.vals T.the_type T'.the_laws h) (λ was. move ! (1 ∷ 0 ∷ []) $
         -- [the totals' cell; what h owns; the open borrow; obs; auth; _19 at 5; …; _0 at 43; …; bs at 45; what is lent]
         assigns ! (of_opd ! (load ! (from ! (hop ! (look ! 25 refl) (stop !))) (look_raw ! 0 refl))) (from ! (stop !)) (init ! 5 refl ((LL.lawful T.the_type T'.the_laws 𝓛).typed h _ was).0) $
-        move ! (46 ∷ []) $ use1 𝓛 (raw ((Bring 𝓛 at_mem run).pre to-bring)) (goes-bring was) $
-        calls_at ! fm (Bring 𝓛 at_mem run) known to-bring
+        move ! (46 ∷ []) $ use1 𝓛 (raw ((Bring 𝓛 at_mem run).pre to_bring)) (goes_bring was) $
+        calls_at ! fm (Bring 𝓛 at_mem run) known to_bring
         (and_then ! (load ! (from ! (stop !)) (look ! 42 refl)) (and_then ! (load ! (from ! (stop !)) (look ! 40 refl)) (and_then ! (load ! (from ! (stop !)) (look ! 38 refl)) (and_then ! (load ! (from ! (stop !)) (look ! 20 refl)) (and_then ! (load ! (from ! (stop !)) (look ! 16 refl)) (and_then ! (load ! (from ! (stop !)) (look ! 12 refl)) (and_then ! (load ! (from ! (stop !)) (look ! 30 refl)) (and_then ! (load ! (from ! (stop !)) (look ! 8 refl)) (and_then ! (load ! (from ! (stop !)) (look ! 6 refl)) (no_more !)))))))))) (λ v.
         use1 𝓛 (later (some (λ (r : Brought). (Tokens ⊛ ‵ ((O.the_row).own_val r (v ∷ []))) ⊛ raw (ensured 𝓛 bring.ended (bring.clauses 𝓛 at_mem run) (κ₀, (κ₁, (κ₂, (κ₃, (κ₄, tt))))) (n, (c, (d, (st, (sp, (wt, (bs, (an, (h, tt))))))))) tt r)))) (id⊢ 𝓤 _) $ await ! tt $ pick ! (λ r.
         split ! $ move ! (1 ∷ []) $ use1 𝓛 (some (λ (zs : Left). ‵ (lasts bring.ended (κ₀, (κ₁, (κ₂, (κ₃, (κ₄, tt))))) (n, (c, (d, (st, (sp, (wt, (bs, (an, (h, tt))))))))) zs) ⊛ raw (fact 𝓤 (Leaves r zs)))) (id⊢ 𝓤 _) $ pick ! (λ zs.
@@ -289,9 +289,9 @@ module _ {M : Type 1} {𝓤 : Ura M} (𝓛 : Logic 𝓤) (at_mem : Memory → SP
 module _ {M : Type 1} {𝓤 : Ura M} (𝓛 : Logic 𝓤) (at_mem : Memory → SProp 𝓤) (run : Routine → Fun 𝓤) where
   open 𝓛 use {H}
 
-  ws-stream-walks : (C : Calls 𝓤 H) (Λ : Loops 𝓤 H) → FmC 𝓤 H 𝓛.laws C → Triple 𝓤 (C #wormstrand·bring-forward) (Bring 𝓛 at_mem run)
+  ws_stream_walks : (C : Calls 𝓤 H) (Λ : Loops 𝓤 H) → FmC 𝓤 H 𝓛.laws C → Triple 𝓤 (C #wormstrand·bring-forward) (Bring 𝓛 at_mem run)
       → Walks 𝓛 f.ended stayed (WpFn 𝓤 H C Λ code.function) (f.clauses 𝓛 at_mem run)
-  ws-stream-walks C Λ fm known = walked 𝓛 f.ended stayed (f.clauses 𝓛 at_mem run) (WpFn 𝓤 H C Λ code.function)
+  ws_stream_walks C Λ fm known = walked 𝓛 f.ended stayed (f.clauses 𝓛 at_mem run) (WpFn 𝓤 H C Λ code.function)
       (λ κs. (uint_vals w64, (uint_vals w64, (uint_vals w64, (shr_slice_vals, (shr_slice_vals, (shr_slice_vals, (shr_slice_vals, (shr_slice_vals, (shr_vals, tt))))))))))
       (λ κs. (
         uint_Tells w64,
@@ -341,16 +341,16 @@ module _ {M : Type 1} {𝓤 : Ura M} (𝓛 : Logic 𝓤) (at_mem : Memory → SP
     ),
   )
 
-ws-stream-meets : {M : Type 1} {𝓤 : Ura M} (𝓛 : Logic 𝓤) → (at_mem : Memory → SProp 𝓤) (run : Routine → Fun 𝓤) (𝓣 : Tables 𝓤 𝓛.H) → Triple 𝓤 (𝓣.C #wormstrand·bring-forward) (Bring 𝓛 at_mem run)
+ws_stream_meets : {M : Type 1} {𝓤 : Ura M} (𝓛 : Logic 𝓤) → (at_mem : Memory → SProp 𝓤) (run : Routine → Fun 𝓤) (𝓣 : Tables 𝓤 𝓛.H) → Triple 𝓤 (𝓣.C #wormstrand·bring-forward) (Bring 𝓛 at_mem run)
     → Meets 𝓛 f.signature (WpFn 𝓤 𝓛.H 𝓣.C 𝓣.Λ code.function) (f.spec 𝓛 at_mem run)
-ws-stream-meets {𝓤 = 𝓤} 𝓛 at_mem run 𝓣 known =
+ws_stream_meets {𝓤 = 𝓤} 𝓛 at_mem run 𝓣 known =
     walk_Meets 𝓛 f.ended stayed (goes 𝓛 at_mem run) (f.clauses 𝓛 at_mem run) (WpFn 𝓤 𝓛.H 𝓣.C 𝓣.Λ code.function)
-    (WpFn-mono 𝓤 𝓛.H 𝓛.laws 𝓣 code.function) (ws-stream-walks 𝓛 at_mem run 𝓣.C 𝓣.Λ (fm_of 𝓤 𝓛.H 𝓛.laws 𝓣) known)
+    (WpFn-mono 𝓤 𝓛.H 𝓛.laws 𝓣 code.function) (ws_stream_walks 𝓛 at_mem run 𝓣.C 𝓣.Λ (fm_of 𝓤 𝓛.H 𝓛.laws 𝓣) known)
 
-pub ws-stream-spec : {M : Type 1} → stated.statement M
+pub ws_stream_spec : {M : Type 1} → stated.statement M
 unfolding code.routine tables_of
-ws-stream-spec 𝓤 𝓛 𝓜 𝓡 =
+ws_stream_spec 𝓤 𝓛 𝓜 𝓡 =
     entered 𝓤 𝓛.H (triple_of 𝓛 f.signature (f.spec 𝓛 𝓜.mem 𝓡.run))
     (tables 𝓤 𝓛.H 𝓜 𝓡 code.env).C (tables 𝓤 𝓛.H 𝓜 𝓡 code.env).Λ #wormstrand·ws-stream code.function (code.unfolded 𝓤 𝓛.H 𝓜 𝓡)
-    (ws-stream-meets 𝓛 𝓜.mem 𝓡.run (tables_of 𝓤 𝓛.H 𝓜 (tables 𝓤 𝓛.H 𝓜 𝓡 code.env))
+    (ws_stream_meets 𝓛 𝓜.mem 𝓡.run (tables_of 𝓤 𝓛.H 𝓜 (tables 𝓤 𝓛.H 𝓜 𝓡 code.env))
     (cited 𝓤 𝓛.H (Bring 𝓛 𝓜.mem 𝓡.run) 𝓜 𝓡 code.env #wormstrand·bring-forward bring-def.routine code.calls-wormstrand::bring-forward (bring-thm.met 𝓤 𝓛 𝓜 𝓡)))

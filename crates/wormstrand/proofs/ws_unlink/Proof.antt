@@ -16,5 +16,5 @@ same_length c = search rules
 returns : tie.Need-returns
 returns c = packed _ _ _ _ _ _ _ _ c.before.before.before.unlink.ensures c.pack.ensures
 
-pub ws-unlink-spec : {M : Type 1} → statement M
-ws-unlink-spec = tie.close (tie.spec unlink-requires pack-requires same_length returns)
+pub ws_unlink_spec : {M : Type 1} → statement M
+ws_unlink_spec = tie.close (tie.spec unlink-requires pack-requires same_length returns)

@@ -1,5 +1,5 @@
 -- `judge::chain::cell` meets its contract, test by test. Assumes nothing.
-use Rattle.terms.proofs.Told.{tells-iff}
+use Rattle.terms.proofs.Told.{tells_iff}
 use native.Mathlib.Omega.{arith}
 use borrow.Author.Rules.{rules}
 use Rattle.judge.proofs.chain.cell.Statement.{statement}
@@ -18,7 +18,7 @@ aim-requires : tie.Need-aim-requires
 aim-requires c κs = search rules
 
 returns-3 : tie.Need-returns-3
-returns-3 c = tells-iff (λ p. record { within = omega arith; owned = omega arith; aims = p }) (λ h. h.aims) c.aim.result c.aim.ensures
+returns-3 c = tells_iff (λ p. record { within = omega arith; owned = omega arith; aims = p }) (λ h. h.aims) c.aim.result c.aim.ensures
 
-pub cell-spec : {M : Type 1} → statement M
-cell-spec = tie.close (tie.spec returns owner-requires returns-2 aim-requires returns-3)
+pub cell_spec : {M : Type 1} → statement M
+cell_spec = tie.close (tie.spec returns owner-requires returns-2 aim-requires returns-3)

@@ -3,10 +3,10 @@
 use Prim.Native.Nat.{ℕ, ◌+◌, ◌*◌, ◌-◌, ◌≤◌, ◌<◌}
 use mathlib.Core.Path.{◌≡◌, sym, ◌∙◌}
 use borrow.Author.Count.{below_none, below_more}
-use Rattle.terms.proofs.Told.{eqb-told}
+use Rattle.terms.proofs.Told.{eqb_told}
 use Rattle.meaning.specs.Table.{length_of}
 use Rattle.meaning.specs.Soundness as meant
-use Rattle.meaning.proofs.Judged.{lengths_none, lengths-more, lengths-end}
+use Rattle.meaning.proofs.Judged.{lengths_none, lengths_more, lengths_end}
 use borrow.Author.Rules.{rules}
 use native.Mathlib.Omega.{arith}
 use Rattle.judge.proofs.chain.lengths.Statement.{statement}
@@ -38,7 +38,7 @@ loop-less : tie.Need-loop-smaller invariant-loop decreases-loop
 loop-less c = search rules
 
 loop-again : tie.Need-loop-preserved invariant-loop decreases-loop
-loop-again c = (omega arith, simp lengths-more (omega arith), omega arith, below_more _ _ c.before.before.before.loop.invariant.3 (omega arith))
+loop-again c = (omega arith, simp lengths_more (omega arith), omega arith, below_more _ _ c.before.before.before.loop.invariant.3 (omega arith))
 
 count-requires-2 : tie.Need-count-requires-2 invariant-loop decreases-loop
 count-requires-2 c κs = search rules
@@ -49,12 +49,12 @@ add-result c = search rules
 returns-2 : tie.Need-returns-2 invariant-loop decreases-loop
 returns-2 c =
     let at = c.before.before.loop in
-    let all = lengths-end _ _ _ _ _ _ at.invariant.1 (omega arith) c.count2.ensures.0 in
-    eqb-told (at.sum + c.count2.result) c.before.before.before.before.args.c (λ e. record { whole = all ∙ e; short = λ v h. at.invariant.3 v (omega arith) })
+    let all = lengths_end _ _ _ _ _ _ at.invariant.1 (omega arith) c.count2.ensures.0 in
+    eqb_told (at.sum + c.count2.result) c.before.before.before.before.args.c (λ e. record { whole = all ∙ e; short = λ v h. at.invariant.3 v (omega arith) })
     (λ h. sym all ∙ h.whole)
 
-pub lengths-spec : {M : Type 1} → statement M
-lengths-spec =
+pub lengths_spec : {M : Type 1} → statement M
+lengths_spec =
     tie.close
     (tie.spec
     invariant-loop

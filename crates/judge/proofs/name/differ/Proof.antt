@@ -1,5 +1,5 @@
 -- `judge::name::differ` meets its contract, test by test. Assumes nothing.
-use Rattle.terms.proofs.Told.{neb-told}
+use Rattle.terms.proofs.Told.{neb_told}
 use native.Mathlib.Omega.{arith}
 use borrow.Author.Rules.{rules}
 use Rattle.judge.proofs.name.differ.Statement.{statement}
@@ -25,11 +25,11 @@ number-requires-2 c κs = search rules
 
 returns-3 : tie.Need-returns-3
 returns-3 c =
-    neb-told c.before.number.result c.number2.result (λ e o p q. e (omega arith))
+    neb_told c.before.number.result c.number2.result (λ e o p q. e (omega arith))
     (λ h e. h (λ z. c.before.before.before.if1.false (omega arith)) (omega arith) (omega arith))
 
-pub differ-spec : {M : Type 1} → statement M
-differ-spec =
+pub differ_spec : {M : Type 1} → statement M
+differ_spec =
     tie.close
     (tie.spec
     line-requires

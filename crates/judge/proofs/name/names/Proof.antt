@@ -5,7 +5,7 @@ use borrow.Author.Count.{below_none, below_more}
 use Rattle.meaning.proofs.Judged.{Fresh}
 use Rattle.terms.proofs.Told.{passed, failed}
 use Rattle.judge.specs.Bucket.{Befores}
-use Rattle.judge.proofs.Buckets.{Lasts, lasts-none, befores-none, chained, lasts-more, befores-more}
+use Rattle.judge.proofs.Buckets.{Lasts, lasts_none, befores_none, chained, lasts_more, befores_more}
 use borrow.Author.Rules.{rules}
 use native.Mathlib.Omega.{arith}
 use Rattle.judge.proofs.name.names.Statement.{statement}
@@ -18,7 +18,7 @@ abbrev decreases-loop : tie.decreases-loop
 decreases-loop store n c lasts₀ before₀ v₀ lasts before v = n - v
 
 loop-holds : tie.Need-loop-init invariant-loop decreases-loop
-loop-holds c = (omega arith, lasts-none _ _ _, befores-none _ _ _ _ c.before.requires.room.places-most, below_none _)
+loop-holds c = (omega arith, lasts_none _ _ _, befores_none _ _ _ _ c.before.requires.room.places_at_most, below_none _)
 
 bucket-requires : tie.Need-bucket-requires invariant-loop decreases-loop
 bucket-requires c κs = search rules
@@ -68,16 +68,16 @@ loop-again c =
     let b = c.before.before.before.bucket.ensures in
     let chain = chained _ _ _ _ _ _ _ b.1 b.0 inv.1 inv.2 in (
       omega arith,
-      lasts-more _ _ _ _ _ _ b.1 b.0 inv.1,
-      befores-more _ _ _ _ _ _ (omega arith) chain.start inv.2,
+      lasts_more _ _ _ _ _ _ b.1 b.0 inv.1,
+      befores_more _ _ _ _ _ _ (omega arith) chain.start inv.2,
       below_more _ _ inv.3 (passed c.before.fresh.result c.if1.false c.before.fresh.ensures),
     )
 
 returns-2 : tie.Need-returns-2 invariant-loop decreases-loop
 returns-2 c = λ k h. c.before.loop.invariant.3 k (omega arith)
 
-pub names-spec : {M : Type 1} → statement M
-names-spec =
+pub names_spec : {M : Type 1} → statement M
+names_spec =
     tie.close
     (tie.spec
     invariant-loop

@@ -2,7 +2,7 @@
 -- The measure is what is left of the length, so that it ends on every table. Assumes nothing.
 use mathlib.Core.Logic.{inl, inr, ⊎_elim}
 use mathlib.Core.Path.{◌∙◌}
-use Rattle.meaning.proofs.Judged.{Has, has-out, has_in, has_end}
+use Rattle.meaning.proofs.Judged.{Has, has_out, has_in, has_end}
 use borrow.Author.Rules.{rules}
 use native.Mathlib.Omega.{arith}
 use Rattle.judge.proofs.pair.has.Statement.{statement}
@@ -18,7 +18,7 @@ loop-holds : tie.Need-loop-init invariant-loop decreases-loop
 loop-holds c = (λ p. p, λ p. p)
 
 returns : tie.Need-returns invariant-loop decreases-loop
-returns c = λ h. let p = (has-out _ _ _ _ _ _ c.before.loop-test.true (c.before.before.loop.invariant.1 h)).0 in omega arith
+returns c = λ h. let p = (has_out _ _ _ _ _ _ c.before.loop-test.true (c.before.before.loop.invariant.1 h)).0 in omega arith
 
 target-requires : tie.Need-target-requires invariant-loop decreases-loop
 target-requires c κs = search rules
@@ -42,14 +42,14 @@ loop-again c =
     let more = c.before.before.before.before.loop-test.true in
     rw c.next.ensures.0 (
       λ p. inv.0 (has_in _ _ _ _ _ _ more (omega arith, inr p)),
-      λ p. ⊎_elim (λ e. absurd (c.before.if2.false (c.before.before.target.ensures.0 ∙ e))) (λ q. q) (has-out _ _ _ _ _ _ more (inv.1 p)).1,
+      λ p. ⊎_elim (λ e. absurd (c.before.if2.false (c.before.before.target.ensures.0 ∙ e))) (λ q. q) (has_out _ _ _ _ _ _ more (inv.1 p)).1,
     )
 
 returns-3 : tie.Need-returns-3 invariant-loop decreases-loop
 returns-3 c = λ h. has_end _ _ _ _ _ _ (omega arith) (c.before.loop.invariant.1 h)
 
-pub has-spec : {M : Type 1} → statement M
-has-spec =
+pub has_spec : {M : Type 1} → statement M
+has_spec =
     tie.close
     (tie.spec
     invariant-loop

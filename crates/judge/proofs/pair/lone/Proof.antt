@@ -1,5 +1,5 @@
 -- `judge::pair::lone` meets its contract: both lists that can have the pair are looked through. Assumes nothing.
-use Rattle.terms.proofs.Told.{yes-told, no-told, not-told}
+use Rattle.terms.proofs.Told.{yes_told, no_told, not_told}
 use native.Mathlib.Omega.{arith}
 use borrow.Author.Rules.{rules}
 use Rattle.judge.proofs.pair.lone.Statement.{statement}
@@ -17,7 +17,7 @@ has-requires c κs = search rules
 returns : tie.Need-returns
 returns c =
     λ h. h.later (rw (c.before.before.before.target.ensures.0, c.before.before.next.ensures.0) at
-    (yes-told c.before.has.result c.if1.true c.before.has.ensures))
+    (yes_told c.before.has.result c.if1.true c.before.has.ensures))
 
 head-requires : tie.Need-head-requires
 head-requires c κs =
@@ -38,15 +38,15 @@ returns-2 c =
     let t = looked.before.before.target.ensures.0 in
     let start = c.before.before.head.ensures.0 in
     let many = c.before.count.ensures.0 in
-    not-told
+    not_told
     (λ p. record {
-      later = rw (t, looked.before.next.ensures.0) at (no-told looked.has.result c.before.before.before.if1.false looked.has.ensures);
+      later = rw (t, looked.before.next.ensures.0) at (no_told looked.has.result c.before.before.before.if1.false looked.has.ensures);
       back = rw (start, many, t) at p;
     })
     (λ h p. h.back (rw (start, many, t) at p)) c.has2.result c.has2.ensures
 
-pub lone-spec : {M : Type 1} → statement M
-lone-spec =
+pub lone_spec : {M : Type 1} → statement M
+lone_spec =
     tie.close
     (tie.spec
     target-requires

@@ -1,5 +1,5 @@
 -- `lists::cell::front` meets its contract. Assumes nothing.
-use Rattle.meaning.proofs.Steps.{nth, hookAt}
+use Rattle.meaning.proofs.Steps.{nth, hook_at}
 use mathlib.Core.Path.{refl}
 use borrow.Author.Rules.{rules}
 use Rattle.lists.proofs.cell.front.Statement.{statement}
@@ -12,8 +12,8 @@ head-at-requires : tie.Need-head-at-requires
 head-at-requires c κs = search rules
 
 returns : tie.Need-returns
-unfolding nth hookAt
+unfolding nth hook_at
 returns c = record { position = refl; cell = c.before.head.ensures.0; hook = c.head_at.ensures }
 
-pub front-spec : {M : Type 1} → statement M
-front-spec = tie.close (tie.spec head-requires head-at-requires returns)
+pub front_spec : {M : Type 1} → statement M
+front_spec = tie.close (tie.spec head-requires head-at-requires returns)

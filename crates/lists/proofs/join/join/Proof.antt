@@ -1,5 +1,5 @@
 -- `lists::join::join` meets its contract: each way out is the law of its case. Assumes nothing.
-use Rattle.lists.proofs.Joining.{join-full, join-add, join-short, join-settling, join-settled, join-dense}
+use Rattle.lists.proofs.Joining.{join_full, join_add, join_short, join_settling, join_settled, join_dense}
 use native.Mathlib.Omega.{arith}
 use borrow.Author.Rules.{rules}
 use Rattle.lists.proofs.join.join.Statement.{statement}
@@ -12,7 +12,7 @@ same_length : tie.Need-same-length
 same_length c = search rules
 
 returns : tie.Need-returns
-returns c = join-full _ _ _ _ _ _ _ _ c.before.before.before.before.before.before.requires _ c.before.count.ensures.0 c.if1.true
+returns c = join_full _ _ _ _ _ _ _ _ c.before.before.before.before.before.before.requires _ c.before.count.ensures.0 c.if1.true
 
 count-requires-2 : tie.Need-count-requires-2
 count-requires-2 c κs = search rules
@@ -24,7 +24,7 @@ same-length-2 : tie.Need-same-length-2
 same-length-2 c = search rules
 
 returns-2 : tie.Need-returns-2
-returns-2 c = join-short _ _ _ _ _ _ _ _ c.before.before.before.before.before.before.before.before.before.before.before.before.before.requires _ c.before.before.before.before.before.before.before.before.count.ensures.0 c.before.before.before.before.before.before.before.if1.false _ c.before.before.add.ensures _ c.before.before.before.before.before.count2.ensures.0 c.before.before.before.before.if2.true
+returns-2 c = join_short _ _ _ _ _ _ _ _ c.before.before.before.before.before.before.before.before.before.before.before.before.before.requires _ c.before.before.before.before.before.before.before.before.count.ensures.0 c.before.before.before.before.before.before.before.if1.false _ c.before.before.add.ensures _ c.before.before.before.before.before.count2.ensures.0 c.before.before.before.before.if2.true
 
 copy-requires : tie.Need-copy-requires
 copy-requires c κs = search rules
@@ -33,7 +33,7 @@ add-requires-2 : tie.Need-add-requires-2
 add-requires-2 c κs = search rules
 
 settle-requires : tie.Need-settle-requires
-settle-requires c κs = join-settling _ _ _ _ _ _ _ _ c.before.before.before.before.before.before.before.before.before.before.before.before.before.before.before.before.before.before.before.before.before.requires _ c.before.before.before.before.before.before.before.before.before.before.before.before.before.before.before.before.count.ensures.0 c.before.before.before.before.before.before.before.before.before.before.before.before.before.before.before.if1.false _ c.before.before.before.before.before.add2.ensures _ c.before.before.before.before.before.before.before.before.before.before.before.before.before.count2.ensures.0 c.before.before.before.before.before.before.before.before.before.before.before.before.if2.false _ c.before.before.before.before.before.before.before.before.before.copy.ensures
+settle-requires c κs = join_settling _ _ _ _ _ _ _ _ c.before.before.before.before.before.before.before.before.before.before.before.before.before.before.before.before.before.before.before.before.before.requires _ c.before.before.before.before.before.before.before.before.before.before.before.before.before.before.before.before.count.ensures.0 c.before.before.before.before.before.before.before.before.before.before.before.before.before.before.before.if1.false _ c.before.before.before.before.before.add2.ensures _ c.before.before.before.before.before.before.before.before.before.before.before.before.before.count2.ensures.0 c.before.before.before.before.before.before.before.before.before.before.before.before.if2.false _ c.before.before.before.before.before.before.before.before.before.copy.ensures
 
 enum-known-reversals : tie.Need-enum-known-reversals
 enum-known-reversals c = search rules
@@ -51,7 +51,7 @@ same-length-5 : tie.Need-same-length-5
 same-length-5 c = search rules
 
 returns-3 : tie.Need-returns-3
-returns-3 c = join-settled _ _ _ _ _ _ _ _ c.before.before.before.before.before.before.before.before.before.before.before.before.before.before.before.before.before.before.before.before.before.before.before.before.before.before.before.before.before.requires _ c.before.before.before.before.before.before.before.before.before.before.before.before.before.before.before.before.before.before.before.before.before.before.before.before.count.ensures.0 c.before.before.before.before.before.before.before.before.before.before.before.before.before.before.before.before.before.before.before.before.before.before.before.if1.false _ c.before.before.before.before.before.before.before.before.before.before.before.before.before.add2.ensures _ c.before.before.before.before.before.before.before.before.before.before.before.before.before.before.before.before.before.before.before.before.before.count2.ensures.0 c.before.before.before.before.before.before.before.before.before.before.before.before.before.before.before.before.before.before.before.before.if2.false _ c.before.before.before.before.before.before.before.before.before.before.before.before.before.before.before.before.before.copy.ensures _ _ _ c.before.before.before.before.before.before.before.settle.ensures _ c.before.reversals.given.1
+returns-3 c = join_settled _ _ _ _ _ _ _ _ c.before.before.before.before.before.before.before.before.before.before.before.before.before.before.before.before.before.before.before.before.before.before.before.before.before.before.before.before.before.requires _ c.before.before.before.before.before.before.before.before.before.before.before.before.before.before.before.before.before.before.before.before.before.before.before.before.count.ensures.0 c.before.before.before.before.before.before.before.before.before.before.before.before.before.before.before.before.before.before.before.before.before.before.before.if1.false _ c.before.before.before.before.before.before.before.before.before.before.before.before.before.add2.ensures _ c.before.before.before.before.before.before.before.before.before.before.before.before.before.before.before.before.before.before.before.before.before.count2.ensures.0 c.before.before.before.before.before.before.before.before.before.before.before.before.before.before.before.before.before.before.before.before.if2.false _ c.before.before.before.before.before.before.before.before.before.before.before.before.before.before.before.before.before.copy.ensures _ _ _ c.before.before.before.before.before.before.before.settle.ensures _ c.before.reversals.given.1
 
 same-length-6 : tie.Need-same-length-6
 same-length-6 c = search rules
@@ -63,10 +63,10 @@ same-length-8 : tie.Need-same-length-8
 same-length-8 c = search rules
 
 returns-4 : tie.Need-returns-4
-returns-4 c = join-dense _ _ _ _ _ _ _ _ c.before.before.before.before.before.before.before.before.before.before.before.before.before.before.before.before.before.before.before.before.before.before.before.before.before.before.before.before.requires _ c.before.before.before.before.before.before.before.before.before.before.before.before.before.before.before.before.before.before.before.before.before.before.before.count.ensures.0 c.before.before.before.before.before.before.before.before.before.before.before.before.before.before.before.before.before.before.before.before.before.before.if1.false _ c.before.before.before.before.before.before.before.before.before.before.before.before.add2.ensures _ c.before.before.before.before.before.before.before.before.before.before.before.before.before.before.before.before.before.before.before.before.count2.ensures.0 c.before.before.before.before.before.before.before.before.before.before.before.before.before.before.before.before.before.before.before.if2.false _ c.before.before.before.before.before.before.before.before.before.before.before.before.before.before.before.before.copy.ensures _ _ _ c.before.before.before.before.before.before.settle.ensures c.enum_told.given.1
+returns-4 c = join_dense _ _ _ _ _ _ _ _ c.before.before.before.before.before.before.before.before.before.before.before.before.before.before.before.before.before.before.before.before.before.before.before.before.before.before.before.before.requires _ c.before.before.before.before.before.before.before.before.before.before.before.before.before.before.before.before.before.before.before.before.before.before.before.count.ensures.0 c.before.before.before.before.before.before.before.before.before.before.before.before.before.before.before.before.before.before.before.before.before.before.if1.false _ c.before.before.before.before.before.before.before.before.before.before.before.before.add2.ensures _ c.before.before.before.before.before.before.before.before.before.before.before.before.before.before.before.before.before.before.before.before.count2.ensures.0 c.before.before.before.before.before.before.before.before.before.before.before.before.before.before.before.before.before.before.before.if2.false _ c.before.before.before.before.before.before.before.before.before.before.before.before.before.before.before.before.copy.ensures _ _ _ c.before.before.before.before.before.before.settle.ensures c.enum_told.given.1
 
-pub join-spec : {M : Type 1} → statement M
-join-spec =
+pub join_spec : {M : Type 1} → statement M
+join_spec =
     tie.close
     (tie.spec
     count-requires

@@ -1,5 +1,5 @@
 -- `lists::turning::turning` meets its contract: what is left to turn comes to the whole. Assumes nothing.
-use Rattle.lists.proofs.Turns.{Turns, Walks, walks-start, walks-hand, walks_more, turns-start, turns-word, turns-list, turns-few, turns-walk, turns_next, ends-settled, ends-dense}
+use Rattle.lists.proofs.Turns.{Turns, Walks, walks_start, walks_hand, walks_more, turns_start, turns_word, turns_list, turns_few, turns_walk, turns_next, ends_settled, ends_dense}
 use Prim.Native.Nat.{◌-◌}
 use borrow.Author.Rules.{rules}
 use native.Mathlib.Omega.{arith}
@@ -19,28 +19,28 @@ abbrev decreases-loop : tie.decreases-loop
 decreases-loop store₀ waiting₀ n c d m a top₀ turned₀ reversals₀ store waiting top turned reversals = m - turned
 
 put-requires : tie.Need-put-requires invariant-walk decreases-walk invariant-loop decreases-loop
-put-requires c κs = (omega (arith, c.before.before.before.requires.room, c.before.before.before.requires.place), omega (arith, c.before.before.before.requires.place, c.before.before.before.requires.linked.threaded.room.places-most))
+put-requires c κs = (omega (arith, c.before.before.before.requires.room, c.before.before.before.requires.place), omega (arith, c.before.before.before.requires.place, c.before.before.before.requires.linked.threaded.room.places_at_most))
 
 loop-holds : tie.Need-loop-init invariant-walk decreases-walk invariant-loop decreases-loop
-loop-holds c = turns-start _ _ _ _ _ _ _ _ c.before.before.before.before.before.before.requires c.before.before.put.ensures
+loop-holds c = turns_start _ _ _ _ _ _ _ _ c.before.before.before.before.before.before.requires c.before.before.put.ensures
 
 sub-top : tie.Need-overflow-sub-top invariant-walk decreases-walk invariant-loop decreases-loop
 sub-top c = search rules
 
 word-requires : tie.Need-word-requires invariant-walk decreases-walk invariant-loop decreases-loop
-word-requires c κs = turns-word _ _ _ _ _ _ _ _ _ _ _ c.before.before.before.loop.invariant c.before.before.if1.false
+word-requires c κs = turns_word _ _ _ _ _ _ _ _ _ _ _ c.before.before.before.loop.invariant c.before.before.if1.false
 
 count-requires : tie.Need-count-requires invariant-walk decreases-walk invariant-loop decreases-loop
-count-requires c κs = turns-list _ _ _ _ _ _ _ _ _ _ _ c.before.before.before.before.before.loop.invariant c.before.before.before.before.if1.false _ c.before.word.ensures.0
+count-requires c κs = turns_list _ _ _ _ _ _ _ _ _ _ _ c.before.before.before.before.before.loop.invariant c.before.before.before.before.if1.false _ c.before.word.ensures.0
 
 add-reversals : tie.Need-overflow-add-reversals invariant-walk decreases-walk invariant-loop decreases-loop
-add-reversals c = omega (arith, turns-few _ _ _ _ _ _ _ _ _ _ _ c.before.before.before.before.before.before.loop.invariant c.before.before.before.before.before.if1.false _ c.before.before.word.ensures.0, c.before.before.before.before.before.before.loop.invariant.small, c.before.before.before.before.before.before.loop.invariant.most, c.before.before.before.before.before.before.loop.invariant.few, c.before.before.before.before.before.before.loop.invariant.linked.threaded.room.cells-most, c.count.ensures.0)
+add-reversals c = omega (arith, turns_few _ _ _ _ _ _ _ _ _ _ _ c.before.before.before.before.before.before.loop.invariant c.before.before.before.before.before.if1.false _ c.before.before.word.ensures.0, c.before.before.before.before.before.before.loop.invariant.small, c.before.before.before.before.before.before.loop.invariant.most, c.before.before.before.before.before.before.loop.invariant.few, c.before.before.before.before.before.before.loop.invariant.linked.threaded.room.cells_at_most, c.count.ensures.0)
 
 walk-holds : tie.Need-walk-init invariant-walk decreases-walk invariant-loop decreases-loop
-walk-holds c = walks-start _ _ _ _ _ _ _ _ (turns-walk _ _ _ _ _ _ _ _ _ _ _ c.before.before.before.before.before.before.loop.invariant c.before.before.before.before.before.if1.false _ c.before.before.word.ensures.0) c.count.ensures.0
+walk-holds c = walks_start _ _ _ _ _ _ _ _ (turns_walk _ _ _ _ _ _ _ _ _ _ _ c.before.before.before.before.before.before.loop.invariant c.before.before.before.before.before.if1.false _ c.before.before.word.ensures.0) c.count.ensures.0
 
 hand-requires : tie.Need-hand-requires invariant-walk decreases-walk invariant-loop decreases-loop
-hand-requires c κs = walks-hand _ _ _ _ _ _ _ _ _ _ _ c.before.before.before.walk.invariant c.before.before.walk-test.false
+hand-requires c κs = walks_hand _ _ _ _ _ _ _ _ _ _ _ c.before.before.before.walk.invariant c.before.before.walk-test.false
 
 sub-left : tie.Need-overflow-sub-left invariant-walk decreases-walk invariant-loop decreases-loop
 sub-left c = search rules
@@ -67,7 +67,7 @@ same-length-2 : tie.Need-same-length-2 invariant-walk decreases-walk invariant-l
 same-length-2 c = search rules
 
 returns : tie.Need-returns invariant-walk decreases-walk invariant-loop decreases-loop
-returns c = ends-settled _ _ _ _ _ _ _ _ _ _ _ c.before.loop.invariant c.if1.true
+returns c = ends_settled _ _ _ _ _ _ _ _ _ _ _ c.before.loop.invariant c.if1.true
 
 same-length-3 : tie.Need-same-length-3 invariant-walk decreases-walk invariant-loop decreases-loop
 same-length-3 c = search rules
@@ -76,10 +76,10 @@ same-length-4 : tie.Need-same-length-4 invariant-walk decreases-walk invariant-l
 same-length-4 c = search rules
 
 returns-2 : tie.Need-returns-2 invariant-walk decreases-walk invariant-loop decreases-loop
-returns-2 c = ends-dense _ _ _ _ _ _ _ _ _ _ _ c.before.before.loop.invariant c.before.if1.false c.if2.true
+returns-2 c = ends_dense _ _ _ _ _ _ _ _ _ _ _ c.before.before.loop.invariant c.before.if1.false c.if2.true
 
-pub turning-spec : {M : Type 1} → statement M
-turning-spec =
+pub turning_spec : {M : Type 1} → statement M
+turning_spec =
     tie.close
     (tie.spec
     invariant-walk

@@ -57,8 +57,8 @@ array-read-t50 c = search rules
 returns : tie.Need-returns
 returns c = rw (c.byte.ensures, c.before.run-bytes2.ensures, c.before.before.run-bytes.ensures)
 
-pub bytes-spec : {M : Type 1} → statement M
-bytes-spec =
+pub bytes_spec : {M : Type 1} → statement M
+bytes_spec =
     tie.close
     (tie.spec
     run-bytes-requires

@@ -2,7 +2,7 @@
 use borrow.Author.Rules.{rules}
 use lib.Seq.{length-take-le}
 use mathlib.Core.Path.{sym}
-use Rattle.record.proofs.Parts.{marked-is}
+use Rattle.record.proofs.Parts.{marked_is}
 use Rattle.record.proofs.reader.is_marked.Statement.{statement}
 use Rattle.record.proofs.reader.is_marked.Tie as tie
 
@@ -16,8 +16,8 @@ same-requires : tie.Need-same-requires
 same-requires c κs = search rules
 
 returns : tie.Need-returns
-returns c = marked-is _ _ c.before.before.before.before.requires c.same.ensures.0 c.same.ensures.1
+returns c = marked_is _ _ c.before.before.before.before.requires c.same.ensures.0 c.same.ensures.1
 
-pub is-marked-spec : {M : Type 1} → statement M
-is-marked-spec =
+pub is_marked_spec : {M : Type 1} → statement M
+is_marked_spec =
     tie.close (tie.spec slice-aggregate-same slice-aggregate-same-2 same-requires returns)

@@ -1,13 +1,13 @@
 -- `record::reader::read` meets its contract: each answer by the law of its case, from the tests that led there. Assumes nothing.
 use borrow.Author.Tests.{not-true, not-false}
 use mathlib.Core.Path.{sym, ◌∙◌}
-use Rattle.record.proofs.Readings.{at-end, cut_short, wrong-mark, wrong-kind, by_kind}
+use Rattle.record.proofs.Readings.{at_end, cut_short, wrong_mark, wrong_kind, by_kind}
 use borrow.Author.Rules.{rules}
 use Rattle.record.proofs.reader.read.Statement.{statement}
 use Rattle.record.proofs.reader.read.Tie as tie
 
 returns : tie.Need-returns
-returns c = sym (at-end _ c.if1.true)
+returns c = sym (at_end _ c.if1.true)
 
 returns-2 : tie.Need-returns-2
 returns-2 c = sym (cut_short _ c.before.if1.false c.if2.true)
@@ -16,7 +16,7 @@ is-marked-requires : tie.Need-is-marked-requires
 is-marked-requires c κs = search rules
 
 returns-3 : tie.Need-returns-3
-returns-3 c = sym (wrong-mark _ c.before.before.if2.false (sym c.before.is-marked.ensures ∙ not-true _ c.if3.true))
+returns-3 c = sym (wrong_mark _ c.before.before.if2.false (sym c.before.is-marked.ensures ∙ not-true _ c.if3.true))
 
 shared-slice-read-kind-of : tie.Need-shared-slice-read-kind-of
 shared-slice-read-kind-of c = search rules
@@ -34,7 +34,7 @@ returns-4 : tie.Need-returns-4
 returns-4 c =
     let m = c.before.before.before.before in
     sym
-    (wrong-kind _ m.before.before.if2.false (sym m.before.is-marked.ensures ∙ not-false _ m.if3.false)
+    (wrong_kind _ m.before.before.if2.false (sym m.before.is-marked.ensures ∙ not-false _ m.if3.false)
     (sym c.before.before.kind-of.ensures ∙ c.enum_told.given.1))
 
 run-at-requires : tie.Need-run-at-requires

@@ -1,6 +1,6 @@
 -- `record::reader::run_at` meets its contract: what `pair_at` tells of each two bytes. Assumes nothing.
 use borrow.Author.Rules.{rules}
-use Rattle.record.proofs.Parts.{run-of}
+use Rattle.record.proofs.Parts.{run_of_lem}
 use Rattle.record.proofs.reader.run_at.Statement.{statement}
 use Rattle.record.proofs.reader.run_at.Tie as tie
 
@@ -26,10 +26,10 @@ add-t9 : tie.Need-overflow-add-t9
 add-t9 c = search rules
 
 returns : tie.Need-returns
-returns c = run-of _ _ _ _ _ c.before.before.pair-at.ensures.0 c.before.pair-at2.ensures.0 c.pair-at3.ensures.0
+returns c = run_of_lem _ _ _ _ _ c.before.before.pair-at.ensures.0 c.before.pair-at2.ensures.0 c.pair-at3.ensures.0
 
-pub run-at-spec : {M : Type 1} → statement M
-run-at-spec =
+pub run_at_spec : {M : Type 1} → statement M
+run_at_spec =
     tie.close
     (tie.spec
     pair-at-requires

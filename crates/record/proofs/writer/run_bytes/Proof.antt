@@ -24,8 +24,8 @@ low-requires-6 c κs = search rules
 returns : tie.Need-returns
 returns c = cc
 
-pub run-bytes-spec : {M : Type 1} → statement M
-run-bytes-spec =
+pub run_bytes_spec : {M : Type 1} → statement M
+run_bytes_spec =
     tie.close
     (tie.spec
     low-requires

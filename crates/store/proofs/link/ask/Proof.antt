@@ -1,6 +1,6 @@
 -- `store::link::ask` meets its contract: each answer is the law of its case. Assumes nothing.
-use Rattle.store.proofs.Linking.{found-two, ask-barred, ask-first, ask-second, ask-neither}
-use Rattle.find.proofs.Finding.{named-both, named-barred, link-first, link-second, link-neither}
+use Rattle.store.proofs.Linking.{found_two, ask_barred, ask_first, ask_second, ask_neither}
+use Rattle.find.proofs.Finding.{named_both, named_barred, link_first, link_second, link_neither}
 use native.Mathlib.Omega.{arith}
 use borrow.Author.Rules.{rules}
 use Rattle.store.proofs.link.ask.Statement.{statement}
@@ -16,7 +16,7 @@ enum-known-ends : tie.Need-enum-known-ends
 enum-known-ends c = search rules
 
 link-of-requires : tie.Need-link-of-requires
-link-of-requires c κs = found-two _ _ _ _ _ _ _ c.before.before.before.before.before.requires (named-both _ _ _ _ _ _ _ c.before.before.before.both.ensures c.before.ends.given.1)
+link-of-requires c κs = found_two _ _ _ _ _ _ _ c.before.before.before.before.before.requires (named_both _ _ _ _ _ _ _ c.before.before.before.both.ensures c.before.ends.given.1)
 
 enum_told : tie.Need-enum-told
 enum_told c = search rules
@@ -28,19 +28,19 @@ enum-told-3 : tie.Need-enum-told-3
 enum-told-3 c = search rules
 
 returns : tie.Need-returns
-returns c = ask-barred _ _ _ _ c.before.before.before.before.before.requires _ _ _ (named-barred _ _ _ _ _ _ _ c.before.before.before.both.ensures c.before.why.given.1)
+returns c = ask_barred _ _ _ _ c.before.before.before.before.before.requires _ _ _ (named_barred _ _ _ _ _ _ _ c.before.before.before.both.ensures c.before.why.given.1)
 
 returns-2 : tie.Need-returns-2
-returns-2 c = ask-first _ _ _ _ c.before.before.before.before.before.before.before.before.requires _ _ _ (named-both _ _ _ _ _ _ _ c.before.before.before.before.before.before.both.ensures c.before.before.before.before.ends.given.1) _ (link-first _ _ _ _ _ _ _ c.before.before.link-of.ensures c.enum_told.given.1)
+returns-2 c = ask_first _ _ _ _ c.before.before.before.before.before.before.before.before.requires _ _ _ (named_both _ _ _ _ _ _ _ c.before.before.before.before.before.before.both.ensures c.before.before.before.before.ends.given.1) _ (link_first _ _ _ _ _ _ _ c.before.before.link-of.ensures c.enum_told.given.1)
 
 returns-3 : tie.Need-returns-3
-returns-3 c = ask-second _ _ _ _ c.before.before.before.before.before.before.before.before.requires _ _ _ (named-both _ _ _ _ _ _ _ c.before.before.before.before.before.before.both.ensures c.before.before.before.before.ends.given.1) _ (link-second _ _ _ _ _ _ _ c.before.before.link-of.ensures c.enum-told2.given.1)
+returns-3 c = ask_second _ _ _ _ c.before.before.before.before.before.before.before.before.requires _ _ _ (named_both _ _ _ _ _ _ _ c.before.before.before.before.before.before.both.ensures c.before.before.before.before.ends.given.1) _ (link_second _ _ _ _ _ _ _ c.before.before.link-of.ensures c.enum-told2.given.1)
 
 returns-4 : tie.Need-returns-4
-returns-4 c = ask-neither _ _ _ _ c.before.before.before.before.before.before.before.before.requires _ _ _ (named-both _ _ _ _ _ _ _ c.before.before.before.before.before.before.both.ensures c.before.before.before.before.ends.given.1) (link-neither _ _ _ _ _ _ c.before.before.link-of.ensures c.enum-told3.given.1)
+returns-4 c = ask_neither _ _ _ _ c.before.before.before.before.before.before.before.before.requires _ _ _ (named_both _ _ _ _ _ _ _ c.before.before.before.before.before.before.both.ensures c.before.before.before.before.ends.given.1) (link_neither _ _ _ _ _ _ c.before.before.link-of.ensures c.enum-told3.given.1)
 
-pub ask-spec : {M : Type 1} → statement M
-ask-spec =
+pub ask_spec : {M : Type 1} → statement M
+ask_spec =
     tie.close
     (tie.spec
     both-requires

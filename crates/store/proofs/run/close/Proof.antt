@@ -1,6 +1,6 @@
 -- `store::run::close` meets its contract: each answer is the law of its test. Assumes nothing.
-use Rattle.store.proofs.Opening.{close-bad, close-shut, close-touched, closes}
-use Rattle.meaning.proofs.Threaded.{sound-threaded}
+use Rattle.store.proofs.Opening.{close_bad, close_shut, close_touched, closes}
+use Rattle.meaning.proofs.Threaded.{sound_threaded}
 use native.Mathlib.Omega.{arith}
 use borrow.Author.Rules.{rules}
 use Rattle.store.proofs.run.close.Statement.{statement}
@@ -10,7 +10,7 @@ is-bad-requires : tie.Need-is-bad-requires
 is-bad-requires c κs = search rules
 
 returns : tie.Need-returns
-returns c = close-bad _ _ _ _ c.before.before.before.requires _ (cc)
+returns c = close_bad _ _ _ _ c.before.before.before.requires _ (cc)
 
 place-requires : tie.Need-place-requires
 place-requires c κs = search rules
@@ -19,16 +19,16 @@ same_length : tie.Need-same-length
 same_length c = search rules
 
 returns-2 : tie.Need-returns-2
-returns-2 c = close-shut _ _ _ _ c.before.before.before.before.before.before.requires _ _ (cc) c.before.place.ensures.0 c.if2.true
+returns-2 c = close_shut _ _ _ _ c.before.before.before.before.before.before.requires _ _ (cc) c.before.place.ensures.0 c.if2.true
 
 touched-requires : tie.Need-touched-requires
-touched-requires c κs = (sound-threaded _ _ _ _ c.before.before.before.before.before.before.before.requires, c.before.if2.false)
+touched-requires c κs = (sound_threaded _ _ _ _ c.before.before.before.before.before.before.before.requires, c.before.if2.false)
 
 same-length-2 : tie.Need-same-length-2
 same-length-2 c = search rules
 
 returns-3 : tie.Need-returns-3
-returns-3 c = close-touched _ _ _ _ c.before.before.before.before.before.before.before.before.before.requires _ _ (cc) c.before.before.before.before.place.ensures.0 c.before.before.before.if2.false (cc)
+returns-3 c = close_touched _ _ _ _ c.before.before.before.before.before.before.before.before.before.requires _ _ (cc) c.before.before.before.before.place.ensures.0 c.before.before.before.if2.false (cc)
 
 rename-requires : tie.Need-rename-requires
 rename-requires c κs = search rules

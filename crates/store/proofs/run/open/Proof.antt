@@ -1,5 +1,5 @@
 -- `store::run::open` meets its contract: each answer is the law of its test. Assumes nothing.
-use Rattle.store.proofs.Opening.{open-bad, open-already, open_full, opens}
+use Rattle.store.proofs.Opening.{open_bad, open_already, open_full, opens}
 use native.Mathlib.Omega.{arith}
 use borrow.Author.Rules.{rules}
 use Rattle.store.proofs.run.open.Statement.{statement}
@@ -9,7 +9,7 @@ is-bad-requires : tie.Need-is-bad-requires
 is-bad-requires c κs = search rules
 
 returns : tie.Need-returns
-returns c = open-bad _ _ _ _ c.before.before.before.requires _ (cc)
+returns c = open_bad _ _ _ _ c.before.before.before.requires _ (cc)
 
 place-requires : tie.Need-place-requires
 place-requires c κs = search rules
@@ -18,7 +18,7 @@ same_length : tie.Need-same-length
 same_length c = search rules
 
 returns-2 : tie.Need-returns-2
-returns-2 c = open-already _ _ _ _ c.before.before.before.before.before.before.requires _ _ (cc) c.before.place.ensures.0 c.if2.true
+returns-2 c = open_already _ _ _ _ c.before.before.before.before.before.before.requires _ _ (cc) c.before.place.ensures.0 c.if2.true
 
 free-place-requires : tie.Need-free-place-requires
 free-place-requires c κs = search rules

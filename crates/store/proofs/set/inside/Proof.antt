@@ -1,5 +1,5 @@
 -- `store::set::inside` meets its contract: the lists of the places passed and of those to come add up to those of the set. Assumes nothing.
-use Rattle.store.proofs.Setting.{Adding, adding-start, adding-more, adding-all}
+use Rattle.store.proofs.Setting.{Adding, adding_start, adding_more, adding_all}
 use Rattle.store.specs.Set.{marked}
 use Rattle.meaning.specs.Day.{cells_of}
 use lib.ListN.{length}
@@ -16,7 +16,7 @@ abbrev decreases-loop : tie.decreases-loop
 decreases-loop store n c places marks sum₀ i₀ sum i = length places - i
 
 loop-holds : tie.Need-loop-init invariant-loop decreases-loop
-loop-holds c = adding-start _ _
+loop-holds c = adding_start _ _
 
 mul-inside-list : tie.Need-overflow-mul-inside-list invariant-loop decreases-loop
 mul-inside-list c = search rules
@@ -40,13 +40,13 @@ loop-less : tie.Need-loop-smaller invariant-loop decreases-loop
 loop-less c = search rules
 
 loop-again : tie.Need-loop-preserved invariant-loop decreases-loop
-loop-again c = adding-more _ _ _ _ _ c.before.before.before.loop.invariant c.before.before.loop-test.true c.inside-list.ensures.0 (omega (arith, c.inside-list.ensures.1, c.before.before.before.before.before.before.before.requires.0.room))
+loop-again c = adding_more _ _ _ _ _ c.before.before.before.loop.invariant c.before.before.loop-test.true c.inside-list.ensures.0 (omega (arith, c.inside-list.ensures.1, c.before.before.before.before.before.before.before.requires.0.room))
 
 returns : tie.Need-returns invariant-loop decreases-loop
-returns c = adding-all _ _ _ _ c.before.loop.invariant c.loop-test.false
+returns c = adding_all _ _ _ _ c.before.loop.invariant c.loop-test.false
 
-pub inside-spec : {M : Type 1} → statement M
-inside-spec =
+pub inside_spec : {M : Type 1} → statement M
+inside_spec =
     tie.close
     (tie.spec
     invariant-loop

@@ -1,5 +1,5 @@
 -- `store::set::mark` meets its contract: the places passed are marked. Assumes nothing.
-use Rattle.store.proofs.Rising.{Marking, marking-start, marking-more, marking-all}
+use Rattle.store.proofs.Rising.{Marking, marking_start, marking_more, marking_all}
 use lib.ListN.{length}
 use Prim.Native.Nat.{◌-◌}
 use borrow.Author.Rules.{rules}
@@ -14,7 +14,7 @@ abbrev decreases-loop : tie.decreases-loop
 decreases-loop marks₀ places i₀ marks i = length places - i
 
 loop-holds : tie.Need-loop-init invariant-loop decreases-loop
-loop-holds c = marking-start _ _ c.requires.0
+loop-holds c = marking_start _ _ c.requires.0
 
 mul-marks : tie.Need-overflow-mul-marks invariant-loop decreases-loop
 mul-marks c = search rules
@@ -35,13 +35,13 @@ loop-less : tie.Need-loop-smaller invariant-loop decreases-loop
 loop-less c = search rules
 
 loop-again : tie.Need-loop-preserved invariant-loop decreases-loop
-loop-again c = marking-more _ _ _ _ c.before.before.before.requires.1 c.before.before.before.requires.2 c.before.before.loop.invariant c.before.loop-test.true
+loop-again c = marking_more _ _ _ _ c.before.before.before.requires.1 c.before.before.before.requires.2 c.before.before.loop.invariant c.before.loop-test.true
 
 same_length : tie.Need-same-length invariant-loop decreases-loop
 same_length c = c.before.loop.invariant.long
 
 returns : tie.Need-returns invariant-loop decreases-loop
-returns c = marking-all _ _ _ _ c.before.loop.invariant c.loop-test.false
+returns c = marking_all _ _ _ _ c.before.loop.invariant c.loop-test.false
 
 pub mark_spec : {M : Type 1} → statement M
 mark_spec =

@@ -72,8 +72,8 @@ same-length-7 c = search rules
 returns-5 : tie.Need-returns-5
 returns-5 c = by_kind _ _ _ _ _ _ c.before.before.before.before.before.before.before.before.before.requires.1 _ _ _ _ _ _ _ c.before.before.enum-told5.given.1 refl (calmly _ _ _ _ _ _ c.before.before.before.before.before.before.before.before.before.requires.1 _ _ _ tt tt c.ask.ensures)
 
-pub carry-spec : {M : Type 1} → statement M
-carry-spec =
+pub carry_spec : {M : Type 1} → statement M
+carry_spec =
     tie.close
     (tie.spec
     enum_told

@@ -1,6 +1,6 @@
 -- `stream::carry::put_answer` meets its contract. Assumes nothing.
 use Rattle.meaning.specs.Table.{written}
-use Rattle.stream.proofs.Stepping.{refusal-most}
+use Rattle.stream.proofs.Stepping.{refusal_most}
 use native.Mathlib.Omega.{arith}
 use borrow.Author.Rules.{rules}
 use Rattle.stream.proofs.carry.put_answer.Statement.{statement}
@@ -13,7 +13,7 @@ value-requires : tie.Need-value-requires
 value-requires c κs = search rules
 
 cast-answers : tie.Need-overflow-cast-answers
-cast-answers c = omega (arith, refusal-most c.before.before.before.args.answer, c.before.refusal.ensures)
+cast-answers c = omega (arith, refusal_most c.before.before.before.args.answer, c.before.refusal.ensures)
 
 mul-answers : tie.Need-overflow-mul-answers
 mul-answers c = search rules
@@ -46,8 +46,8 @@ returns : tie.Need-returns
 unfolding written
 returns c = cc
 
-pub put-answer-spec : {M : Type 1} → statement M
-put-answer-spec =
+pub put_answer_spec : {M : Type 1} → statement M
+put_answer_spec =
     tie.close
     (tie.spec
     refusal-requires

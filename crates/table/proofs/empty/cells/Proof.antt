@@ -1,5 +1,5 @@
 -- `table::empty::cells` meets its contract: each section is the law's. Assumes nothing.
-use Rattle.table.proofs.Writing.{cells-emptied}
+use Rattle.table.proofs.Writing.{cells_emptied}
 use borrow.Author.Rules.{rules}
 use Rattle.table.proofs.empty.cells.Statement.{statement}
 use Rattle.table.proofs.empty.cells.Tie as tie
@@ -39,14 +39,14 @@ same_length c = search rules
 
 returns : tie.Need-returns
 returns c =
-    cells-emptied _ _ _ _ _ _ _ c.before.before.before.before.before.before.before.before.before.before.before.before.before.before.before.before.before.before.before.before.before.requires
+    cells_emptied _ _ _ _ _ _ _ c.before.before.before.before.before.before.before.before.before.before.before.before.before.before.before.before.before.before.before.before.before.requires
     _ c.before.before.before.before.before.before.before.before.before.before.before.before.before.before.before.before.before.before.owner_at.ensures c.before.before.before.before.before.before.before.before.before.before.before.before.before.before.before.before.before.fill.ensures
     _ c.before.before.before.before.before.before.before.before.before.before.before.before.before.target_at.ensures c.before.before.before.before.before.before.before.before.before.before.before.before.fill2.ensures
-    _ c.before.before.before.before.before.before.before.before.next-at.ensures c.before.before.before.before.before.before.before.count-up.ensures
+    _ c.before.before.before.before.before.before.before.before.next_at_lem.ensures c.before.before.before.before.before.before.before.count-up.ensures
     _ c.before.before.before.next-at2.ensures c.before.before.put.ensures
 
-pub cells-spec : {M : Type 1} → statement M
-cells-spec =
+pub cells_spec : {M : Type 1} → statement M
+cells_spec =
     tie.close
     (tie.spec
     owner-at-requires

@@ -1,7 +1,7 @@
 -- `table::empty::count_up` meets its contract: the words below i are written. Assumes nothing.
 use mathlib.Core.Path.{refl}
 use Prim.Native.Nat.{◌+◌, ◌-◌, ◌≤◌}
-use Rattle.table.proofs.Writing.{writes-none, writes_more, writes-all}
+use Rattle.table.proofs.Writing.{writes_none, writes_more, writes_all}
 use Rattle.table.specs.Writing.{Writes}
 use borrow.Author.Rules.{rules}
 use native.Mathlib.Omega.{arith}
@@ -15,7 +15,7 @@ abbrev decreases-loop : tie.decreases-loop
 decreases-loop table₀ from many i₀ table i = many - i
 
 loop-holds : tie.Need-loop-init invariant-loop decreases-loop
-loop-holds c = (search rules, writes-none _ _ _)
+loop-holds c = (search rules, writes_none _ _ _)
 
 add-table : tie.Need-overflow-add-table invariant-loop decreases-loop
 add-table c = search rules
@@ -45,10 +45,10 @@ same_length : tie.Need-same-length invariant-loop decreases-loop
 same_length c = search rules
 
 returns : tie.Need-returns invariant-loop decreases-loop
-returns c = writes-all _ _ _ _ _ c.before.loop.invariant.1 _ (search rules)
+returns c = writes_all _ _ _ _ _ c.before.loop.invariant.1 _ (search rules)
 
-pub count-up-spec : {M : Type 1} → statement M
-count-up-spec =
+pub count_up_spec : {M : Type 1} → statement M
+count_up_spec =
     tie.close
     (tie.spec
     invariant-loop

@@ -1,7 +1,7 @@
 -- `table::empty::fill` meets its contract: the words below i are written. Assumes nothing.
 use mathlib.Core.Path.{refl}
 use Prim.Native.Nat.{◌-◌, ◌≤◌}
-use Rattle.table.proofs.Writing.{writes-none, writes_more, writes-all}
+use Rattle.table.proofs.Writing.{writes_none, writes_more, writes_all}
 use Rattle.table.specs.Writing.{Writes}
 use borrow.Author.Rules.{rules}
 use native.Mathlib.Omega.{arith}
@@ -15,7 +15,7 @@ abbrev decreases-loop : tie.decreases-loop
 decreases-loop table₀ from many x i₀ table i = many - i
 
 loop-holds : tie.Need-loop-init invariant-loop decreases-loop
-loop-holds c = (search rules, writes-none _ _ _)
+loop-holds c = (search rules, writes_none _ _ _)
 
 cast-table : tie.Need-overflow-cast-table invariant-loop decreases-loop
 cast-table c = search rules
@@ -42,7 +42,7 @@ same_length : tie.Need-same-length invariant-loop decreases-loop
 same_length c = search rules
 
 returns : tie.Need-returns invariant-loop decreases-loop
-returns c = writes-all _ _ _ _ _ c.before.loop.invariant.1 _ (search rules)
+returns c = writes_all _ _ _ _ _ c.before.loop.invariant.1 _ (search rules)
 
 pub fill_spec : {M : Type 1} → statement M
 fill_spec =

@@ -1,5 +1,5 @@
 -- `table::empty::places` meets its contract: each section is the law's. Assumes nothing.
-use Rattle.table.proofs.Writing.{places-emptied}
+use Rattle.table.proofs.Writing.{places_emptied}
 use borrow.Author.Rules.{rules}
 use Rattle.table.proofs.empty.places.Statement.{statement}
 use Rattle.table.proofs.empty.places.Tie as tie
@@ -39,15 +39,15 @@ same_length c = search rules
 
 returns : tie.Need-returns
 returns c =
-    places-emptied _ _ _ _ _ _ _ _ c.before.before.before.before.before.before.before.before.before.before.before.before.before.before.before.before.before.before.before.before.before.before.before.before.before.requires
+    places_emptied _ _ _ _ _ _ _ _ c.before.before.before.before.before.before.before.before.before.before.before.before.before.before.before.before.before.before.before.before.before.before.before.before.before.requires
     c.before.before.before.before.before.before.before.before.before.before.before.before.before.before.before.before.before.before.before.before.before.before.fill.ensures
     _ c.before.before.before.before.before.before.before.before.before.before.before.before.before.before.before.before.before.before.head_at.ensures c.before.before.before.before.before.before.before.before.before.before.before.before.before.before.before.before.before.fill2.ensures
     _ c.before.before.before.before.before.before.before.before.before.before.before.before.before.head-at2.ensures c.before.before.before.before.before.before.before.before.before.before.before.before.put.ensures
     _ c.before.before.before.before.before.before.before.before.count_at.ensures c.before.before.before.before.before.before.before.fill3.ensures
     _ c.before.before.before.count-at2.ensures c.before.before.put2.ensures
 
-pub places-spec : {M : Type 1} → statement M
-places-spec =
+pub places_spec : {M : Type 1} → statement M
+places_spec =
     tie.close
     (tie.spec
     mul-fill

@@ -12,7 +12,7 @@ word-requires : tie.Need-word-requires
 word-requires c κs = search rules
 
 returns : tie.Need-returns
-returns c = (c.word.ensures.0 ∙ ap (word _) c.before.next-at.ensures, c.word.ensures.1)
+returns c = (c.word.ensures.0 ∙ ap (word _) c.before.next_at_lem.ensures, c.word.ensures.1)
 
-pub next-spec : {M : Type 1} → statement M
-next-spec = tie.close (tie.spec next-at-requires word-requires returns)
+pub next_spec : {M : Type 1} → statement M
+next_spec = tie.close (tie.spec next-at-requires word-requires returns)

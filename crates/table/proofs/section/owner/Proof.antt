@@ -14,5 +14,5 @@ word-requires c κs = search rules
 returns : tie.Need-returns
 returns c = (c.word.ensures.0 ∙ ap (word _) c.before.owner_at.ensures, c.word.ensures.1)
 
-pub owner-spec : {M : Type 1} → statement M
-owner-spec = tie.close (tie.spec owner-at-requires word-requires returns)
+pub owner_spec : {M : Type 1} → statement M
+owner_spec = tie.close (tie.spec owner-at-requires word-requires returns)

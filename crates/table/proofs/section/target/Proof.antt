@@ -14,5 +14,5 @@ word-requires c κs = search rules
 returns : tie.Need-returns
 returns c = (c.word.ensures.0 ∙ ap (word _) c.before.target_at.ensures, c.word.ensures.1)
 
-pub target-spec : {M : Type 1} → statement M
-target-spec = tie.close (tie.spec target-at-requires word-requires returns)
+pub target_spec : {M : Type 1} → statement M
+target_spec = tie.close (tie.spec target-at-requires word-requires returns)

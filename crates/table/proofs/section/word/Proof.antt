@@ -19,5 +19,5 @@ returns : tie.Need-returns
 unfolding word
 returns c = (refl, omega (arith, c.shared-slice-known.given c.before.args.i))
 
-pub word-spec : {M : Type 1} → statement M
-word-spec = tie.close (tie.spec mul-result shared-slice-read-result cast-result returns)
+pub word_spec : {M : Type 1} → statement M
+word_spec = tie.close (tie.spec mul-result shared-slice-read-result cast-result returns)

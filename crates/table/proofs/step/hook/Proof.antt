@@ -1,7 +1,7 @@
 -- `table::step::hook` meets its contract. Assumes nothing.
 use Prim.Native.Nat.{ℕ, ◌+◌}
 use mathlib.Core.Path.{ap}
-use Rattle.table.proofs.Stepping.{hook-words}
+use Rattle.table.proofs.Stepping.{hook_words}
 use borrow.Author.Rules.{rules}
 use Rattle.table.proofs.step.hook.Statement.{statement}
 use Rattle.table.proofs.step.hook.Tie as tie
@@ -27,11 +27,11 @@ same_length c = search rules
 returns : tie.Need-returns
 returns c = (
   ap (λ (k : ℕ). k + 1) c.before.before.before.before.before.before.before.before.count.ensures.0,
-  hook-words _ _ _ _ _ _ _ _ _ c.before.before.before.before.before.before.before.before.count.ensures.0 _ c.before.before.before.before.before.before.before.before.before.before.head.ensures.0 c.before.before.before.before.before.before.set-cell.ensures c.before.before.set-list.ensures,
+  hook_words _ _ _ _ _ _ _ _ _ c.before.before.before.before.before.before.before.before.count.ensures.0 _ c.before.before.before.before.before.before.before.before.before.before.head.ensures.0 c.before.before.before.before.before.before.set-cell.ensures c.before.before.set-list.ensures,
 )
 
-pub hook-spec : {M : Type 1} → statement M
-hook-spec =
+pub hook_spec : {M : Type 1} → statement M
+hook_spec =
     tie.close
     (tie.spec
     head-requires

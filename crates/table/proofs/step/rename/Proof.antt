@@ -30,8 +30,8 @@ returns : tie.Need-returns
 unfolding renamed written
 returns c = refl
 
-pub rename-spec : {M : Type 1} → statement M
-rename-spec =
+pub rename_spec : {M : Type 1} → statement M
+rename_spec =
     tie.close
     (tie.spec
     mul-store

@@ -29,8 +29,8 @@ returns : tie.Need-returns
 unfolding celled
 returns c = cc
 
-pub set-cell-spec : {M : Type 1} → statement M
-set-cell-spec =
+pub set_cell_spec : {M : Type 1} → statement M
+set_cell_spec =
     tie.close
     (tie.spec
     owner-at-requires

@@ -23,7 +23,7 @@ returns : tie.Need-returns
 unfolding listed
 returns c = cc
 
-pub set-list-spec : {M : Type 1} → statement M
-set-list-spec =
+pub set_list_spec : {M : Type 1} → statement M
+set_list_spec =
     tie.close
     (tie.spec head-at-requires put-requires count-at-requires put-requires-2 same_length returns)

@@ -1,5 +1,5 @@
 -- `table::step::unhook` meets its contract. Assumes nothing.
-use Rattle.table.proofs.Stepping.{unhook-words}
+use Rattle.table.proofs.Stepping.{unhook_words}
 use borrow.Author.Rules.{rules}
 use Rattle.table.proofs.step.unhook.Statement.{statement}
 use Rattle.table.proofs.step.unhook.Tie as tie
@@ -27,11 +27,11 @@ same_length c = search rules
 
 returns : tie.Need-returns
 returns c =
-    unhook-words _ _ _ _ _ _ _ _ _ c.before.before.before.before.before.before.before.before.before.count.ensures.0 _ _ c.before.before.before.before.before.before.before.before.before.before.before.next.ensures.0 c.before.before.before.count_at.ensures
+    unhook_words _ _ _ _ _ _ _ _ _ c.before.before.before.before.before.before.before.before.before.count.ensures.0 _ _ c.before.before.before.before.before.before.before.before.before.before.before.next.ensures.0 c.before.before.before.count_at.ensures
     c.before.before.before.before.before.before.before.put.ensures c.before.before.put2.ensures
 
-pub unhook-spec : {M : Type 1} → statement M
-unhook-spec =
+pub unhook_spec : {M : Type 1} → statement M
+unhook_spec =
     tie.close
     (tie.spec
     next-requires

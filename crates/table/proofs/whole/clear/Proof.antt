@@ -2,7 +2,7 @@
 use Prim.Native.Nat.{◌-◌}
 use lib.ListN.{length, replicate, length-replicate, length-set, get_or-replicate}
 use mathlib.Core.Path.{◌≡◌, refl, sym}
-use Rattle.table.proofs.Fill.{Filled, filled_none, filled_more, filled-all}
+use Rattle.table.proofs.Fill.{Filled, filled_none, filled_more, filled_all}
 use borrow.Author.Rules.{rules}
 use native.Mathlib.Omega.{arith}
 use Rattle.table.proofs.whole.clear.Statement.{statement}
@@ -40,7 +40,7 @@ same_length : tie.Need-same-length invariant-loop decreases-loop
 same_length c = search rules
 
 returns : tie.Need-returns invariant-loop decreases-loop
-returns c = filled-all _ _ _ c.before.loop.invariant.1 (rw length-replicate (omega arith))
+returns c = filled_all _ _ _ c.before.loop.invariant.1 (rw length-replicate (omega arith))
 
 pub clear_spec : {M : Type 1} → statement M
 clear_spec =

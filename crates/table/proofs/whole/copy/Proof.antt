@@ -2,7 +2,7 @@
 use Prim.Native.Nat.{◌-◌}
 use lib.ListN.{length}
 use mathlib.Core.Path.{refl}
-use Rattle.table.proofs.Fill.{Filled, filled_none, filled_more, filled-all}
+use Rattle.table.proofs.Fill.{Filled, filled_none, filled_more, filled_all}
 use borrow.Author.Rules.{rules}
 use native.Mathlib.Omega.{arith}
 use Rattle.table.proofs.whole.copy.Statement.{statement}
@@ -42,7 +42,7 @@ same_length : tie.Need-same-length invariant-loop decreases-loop
 same_length c = search rules
 
 returns : tie.Need-returns invariant-loop decreases-loop
-returns c = filled-all _ _ _ c.before.loop.invariant c.loop-test.false
+returns c = filled_all _ _ _ c.before.loop.invariant c.loop-test.false
 
 pub copy_spec : {M : Type 1} → statement M
 copy_spec =

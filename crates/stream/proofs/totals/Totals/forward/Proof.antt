@@ -52,8 +52,8 @@ returns-5 c = still _ _ _ _ unlinking c.enum-told5.given.1
 returns-6 : tie.Need-returns-6
 returns-6 c = still _ _ _ _ asking c.enum-told6.given.1
 
-pub forward-spec : {M : Type 1} → statement M
-forward-spec =
+pub forward_spec : {M : Type 1} → statement M
+forward_spec =
     tie.close
     (tie.spec
     enum_told
