@@ -1,5 +1,7 @@
 // The public calls, for any numbers and any tables handed in: each judges them and then carries the call out. It knows no stream
 // of records and no caller from C.
+#![tactic(auto)]
+
 ghost use Rattle.meaning.specs.Calls.{open_run, close_run, unlink, ask, reading};
 ghost use Rattle.meaning.specs.Promise.{Promise, EmptyPromise, LinkPromise};
 

@@ -1,6 +1,8 @@
 // The program dayrun: a day's records from standard input, carried out on an empty store of 256 places, 1,024 cells and limit 4.
 // It prints each record's outcome and how the day ended. It only reads, prints and calls: refusals, numbers and totals come from
 // the library, position and kind are those of the record.
+#![tactic(auto)]
+
 ghost use Rattle.std.specs.Prelude.{◌+◌, ◌*◌, ◌≤◌, ◌<◌, length, ◌≡◌};
 ghost use Rattle.dayrun.specs.Line.{bytes_most, answer_words, printed, DayEnds};
 ghost use Rattle.record.specs.Bytes.{record_bytes, kind_at};
@@ -24,7 +26,7 @@ const STORE_WORDS: usize = 4 * PLACES + 2 + 3 * CELLS;
 const ANSWER_WORDS: usize = 2 * (BYTES / Record::BYTES);
 
 // What is printed of a record.
-#[derive(Drop)]
+#[derive(Clone, Copy)]
 struct Line {
     position: u64,
     kind: u64,
@@ -33,7 +35,7 @@ struct Line {
 }
 
 // What is printed of the day's end.
-#[derive(Drop)]
+#[derive(Clone, Copy)]
 struct Ran {
     refusal: u64,
     carried: usize,

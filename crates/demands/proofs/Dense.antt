@@ -1,6 +1,6 @@
 -- No link is refused as too dense if the links with it can be directed with at most half of D, rounded down, outward at each run.
 -- Assumes nothing.
-use Prim.Native.Nat.{ℕ, ◌/◌, ◌<◌}
+use Prim.Native.Nat.{ℕ, ◌+◌, ◌*◌, ◌/◌, ◌<◌, ◌≤◌}
 use mathlib.Core.Bool.{Bool, true, false}
 use mathlib.Core.List.{List, [], ◌∷◌}
 use mathlib.Core.Option.{Option, some}
@@ -23,7 +23,7 @@ use Rattle.meaning.proofs.Finding.{Both}
 use Rattle.meaning.proofs.Kept.{joined, run, link_run, new_link, call_case}
 use Rattle.demands.specs.History.{Directions, unsure, outward, Directed, DirectedWith}
 use Rattle.demands.proofs.Choices.{by}
-use Rattle.demands.proofs.Potential.{holding}
+use Rattle.demands.proofs.Potential.{holding, potential, Paid}
 use Rattle.demands.proofs.Pays.{link_settles}
 
 -- none of the tests gives refusal 9
@@ -39,6 +39,11 @@ first_other (t ∷ ts) o why e f = go t.0 e (first_other ts o.1)
         → ((why : Refusal) → first_refusal ts ≡ some why → why ≡ TooDense → ⊥) → ⊥
     go true g h = let k : t.1 ≡ why = cc in o.0 (ap number_of (k ∙ f))
     go false g h = h why g f
+
+-- a turning that settles is no refusal
+settled_other : (s : Day) (fs : List ℕ) (o : Ending) (I : Lists → List ℕ → ℕ → Type 0) → Settles I o → (ended s fs o).answer ≡ Refused TooDense → ⊥
+settled_other s fs (settled ls r) I h f = let y : ◌≡◌ {A = ℕ} 0 1 = cc in omega arith
+settled_other s fs dense I h f = h
 
 pub never_dense_from : (n D : ℕ) (s : Day) → Right n D s → (p q : Run) (C : Directions) → DirectedWith p q (D / 2) C s
     → (call D s (link p q)).answer ≡ Refused TooDense → ⊥
@@ -60,9 +65,7 @@ never_dense_from n D s ok p q C g =
           each = omega (arith, g.each, push_sum (by (unsure C) s) s.lists u c hu, ap₂ (unsure C) t.0.run_p t.0.run_q);
           few = λ x. omega (arith, g.few x, push_sum (by (outward C x) s) s.lists u c hu, ap₂ (outward C x) t.0.run_p t.0.run_q);
         } in
+        let half : 2 * (D / 2) ≤ D = omega arith in
         link_run (λ a s'. a ≡ Refused TooDense → ⊥) D s u v i fs
-        (ends (run D s u v i) _ (link_settles n D (D / 2) (omega arith) s ok u v i t.0.place_p t.0.place_q C g⁺)) f
-      where
-        ends : (o : Ending) (I : Lists → List ℕ → ℕ → Type 0) → Settles I o → (ended s fs o).answer ≡ Refused TooDense → ⊥
-        ends (settled ls r) I h f = let y : ◌≡◌ {A = ℕ} 0 1 = cc in omega arith
-        ends dense I h f = h
+        (settled_other s fs (run D s u v i) (Paid n D (D / 2) half C s (joined s u v i) g⁺ ((D + 1) * potential C s (joined s u v i)))
+        (link_settles n D (D / 2) half s ok u v i t.0.place_p t.0.place_q C g⁺)) f

@@ -1,5 +1,7 @@
 // Finding in a threaded table: the place of a run, the lowest free place, where a list has a link, whether a link touches a place.
 // It only reads, and knows no call: what is made of what it finds is the caller's.
+#![tactic(auto)]
+
 pub mod touch;
 
 ghost use Rattle.std.specs.Prelude.{◌≤◌, ◌<◌, ◌≡◌};
@@ -53,14 +55,14 @@ pub fn standing(store: &[u32], n: usize, c: usize) -> usize
 }
 
 // A link's cell, its position in the list counted from 0, and the position in the table of the word that names the cell.
-#[derive(Drop)]
+#[derive(Clone, Copy)]
 pub struct Spot {
     pub cell: usize,
     pub position: usize,
     pub hook: usize,
 }
 
-#[derive(Drop)]
+#[derive(Clone, Copy)]
 pub enum Seen {
     At(Spot),
     Nowhere,
@@ -92,7 +94,7 @@ pub fn seek(store: &[u32], n: usize, c: usize, v: usize, t: usize) -> Seen
 }
 
 // Which of two lists has the link.
-#[derive(Drop)]
+#[derive(Clone, Copy)]
 pub enum Linked {
     InFirst(Spot),
     InSecond(Spot),
@@ -114,13 +116,13 @@ pub fn link_of(store: &[u32], n: usize, c: usize, u: usize, v: usize) -> Linked
 }
 
 // The places of two runs.
-#[derive(Drop)]
+#[derive(Clone, Copy)]
 pub struct Ends {
     pub first: usize,
     pub second: usize,
 }
 
-#[derive(Drop)]
+#[derive(Clone, Copy)]
 pub enum Named {
     Both(Ends),
     Refused(Refusal),

@@ -1,6 +1,8 @@
 // The judge: whether the sizes are within their limits, the table has their length and is sound, for any words. It only reads,
 // ends on every table and stays inside it: chains are followed by their length words, never until they happen to end. It knows no
 // call.
+#![tactic(auto)]
+
 ghost use Rattle.std.specs.Prelude.{ℕ, ◌<◌};
 ghost use Rattle.judge.specs.Verdict.{Listed, Says};
 ghost use Rattle.meaning.proofs.Judged.{Judged};
@@ -15,7 +17,7 @@ pub mod chain;
 pub mod name;
 pub mod pair;
 
-#[derive(Drop)]
+#[derive(Clone, Copy)]
 pub enum Verdict {
     Sound,
     // A size outside its limits, or a table of wrong length.

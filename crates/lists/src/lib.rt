@@ -1,5 +1,7 @@
 // Cells that go from list to list: one cell moves, a new link's cell is added, lists that are too long are turned over. It knows
 // places and not names: whoever calls has found the runs, and shows that the table is threaded.
+#![tactic(auto)]
+
 pub mod cell;
 pub mod join;
 pub mod turning;

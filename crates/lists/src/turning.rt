@@ -7,7 +7,7 @@ use crate::cell;
 use table::{section, step};
 
 // No place waits any more, with the number of reversals; or one still waits after as many lists as there are links.
-#[derive(Drop)]
+#[derive(Clone, Copy)]
 pub enum Ended {
     Settled(usize),
     TooDense,

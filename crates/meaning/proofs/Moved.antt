@@ -113,7 +113,7 @@ module _ (n C : ℕ) (w : List ℕ) (u k v t : ℕ) (T : Threaded n C w) (hu : u
   to_freed e f =
       rw (moved_to_count n C w u k v t T hu hv d hk, add-one (length_of n C w v))
       (walk_along n C after _ v _ _ _ (moved_to_walk n C w u k v t T hu hv d hk)
-      (λ a. elim a [
+      (λ a. elim a as (λ a. a < suc (length_of n C w v) → target_of n C after (fronted n C w (cell_at n C w u k) v a) ≡ NONE) [
         | zero ↦ λ h. moved_target n C w u k v t T hu hv d hk ∙ e
         | suc b ↦ λ h. (to_cell n C w u k v t T hu hv d hk b (omega arith)).target ∙ f b (omega arith)
       ]))

@@ -207,9 +207,9 @@ module _ (n C : ℕ) (w : List ℕ) (u k v t : ℕ) (T : Threaded n C w) (hu : u
   moved_to_walk = record {
     starts = sym moved_to_head;
     ends = cell_end n C w T v hv;
-    inside = λ a. elim a [ zero ↦ λ h. i_in | suc b ↦ λ h. cell_inside n C w T v hv b (omega arith) ];
-    owned = λ a. elim a [ zero ↦ λ h. moved_owner | suc b ↦ λ h. (to_cell b (omega arith)).owner ∙ cell_owner n C w T v hv b (omega arith) ];
-    steps = λ a. elim a [
+    inside = λ a. elim a as (λ a. a < suc (length_of n C w v) → fronted n C w i v a < C) [ zero ↦ λ h. i_in | suc b ↦ λ h. cell_inside n C w T v hv b (omega arith) ];
+    owned = λ a. elim a as (λ a. a < suc (length_of n C w v) → owner_of n C after (fronted n C w i v a) ≡ v) [ zero ↦ λ h. moved_owner | suc b ↦ λ h. (to_cell b (omega arith)).owner ∙ cell_owner n C w T v hv b (omega arith) ];
+    steps = λ a. elim a as (λ a. a < suc (length_of n C w v) → next_of n C after (fronted n C w i v a) ≡ fronted n C w i v (suc a)) [
       | zero ↦ λ h. moved_next ∙ sym (nth_zero n C w (head_of n C w v))
       | suc b ↦ λ h. (to_cell b (omega arith)).next ∙ cell_next n C w T v hv b
     ];

@@ -36,6 +36,7 @@ row_sum_one [] = refl
 row_sum_one (c ∷ l) = omega (arith, row_sum_one l)
 
 pub row_sum-mem : (g : Cell → ℕ) (c : Cell) (l : List Cell) → Memᴰ c l → g c ≤ row_sum g l
+row_sum-mem g c [] m = elim m [ ]
 row_sum-mem g c (k ∷ l) (Memᴰ.head e) = rw e (omega arith)
 row_sum-mem g c (k ∷ l) (Memᴰ.tail m) = omega (arith, row_sum-mem g c l m)
 

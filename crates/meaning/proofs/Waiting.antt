@@ -107,6 +107,7 @@ pub waits_first : (D : ℕ) (ls : Lists) (w : ℕ) (st : List ℕ) → Waits D l
 waits_first D ls w st p = omega (arith, p w, same_eq w w refl)
 
 count_mem : (z : ℕ) (st : List ℕ) → Memᴰ z st → 1 ≤ count z st
+count_mem z [] m = elim m [ ]
 count_mem z (y ∷ st) (Memᴰ.head e) = omega (arith, same_eq z y e)
 count_mem z (y ∷ st) (Memᴰ.tail m) = omega (arith, count_mem z st m)
 

@@ -90,8 +90,8 @@ module _ (n C : ℕ) (w : List ℕ) where
       record {
         starts = refl;
         ends = k.ends;
-        inside = λ a. elim a [ zero ↦ λ h. r.0 | suc b ↦ λ h. k.inside b (omega arith) ];
-        owned = λ a. elim a [ zero ↦ λ h. r.1 | suc b ↦ λ h. k.owned b (omega arith) ];
+        inside = λ a. elim a as (λ a. a < suc m → nth n C w a x < C) [ zero ↦ λ h. r.0 | suc b ↦ λ h. k.inside b (omega arith) ];
+        owned = λ a. elim a as (λ a. a < suc m → owner_of n C w (nth n C w a x) ≡ v) [ zero ↦ λ h. r.1 | suc b ↦ λ h. k.owned b (omega arith) ];
         steps = λ a h. sym (nth_suc a x);
       }
 

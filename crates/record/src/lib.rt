@@ -1,5 +1,7 @@
 // Day records: fifteen bytes and what they say. The reader is handed the rest of the stream and answers with what stands
 // first in it. It knows no store: what a record's call does is said elsewhere.
+#![tactic(auto)]
+
 pub mod reader;
 pub mod writer;
 
@@ -10,7 +12,7 @@ ghost use Rattle.record.specs.Reading.{names_one};
 use terms::run::Run;
 
 // What a record asks for.
-#[derive(Drop)]
+#[derive(Clone, Copy)]
 pub enum Kind {
     Open,
     Close,
@@ -58,7 +60,7 @@ impl Kind {
 }
 
 // Where the kind names one run, the second is line 0, trip 0.
-#[derive(Drop)]
+#[derive(Clone, Copy)]
 pub struct Record {
     pub kind: Kind,
     pub first: Run,

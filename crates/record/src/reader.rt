@@ -8,14 +8,14 @@ use terms::refusal::Refusal;
 use terms::run::Run;
 
 // What a kind byte stands for.
-#[derive(Drop)]
+#[derive(Clone, Copy)]
 pub enum KindByte {
     Known(Kind),
     Unknown,
 }
 
 // What stands first in the rest of a stream: a record, no byte more, or why it is no record.
-#[derive(Drop)]
+#[derive(Clone, Copy)]
 pub enum Reading {
     Whole(Record),
     End,

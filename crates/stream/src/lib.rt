@@ -1,5 +1,7 @@
 // The stream: a day's records carried out in order on a store that is judged once. It knows the calls on a sound store and the
 // record reader, and nothing of how either does its work.
+#![tactic(auto)]
+
 pub mod carry;
 pub mod totals;
 
@@ -18,7 +20,7 @@ use terms::size::{Length, Measured};
 use totals::Totals;
 
 // Where a stream ended: at the end of its bytes, or at a record that is none.
-#[derive(Drop)]
+#[derive(Clone, Copy)]
 pub enum Stop {
     End,
     At(Refusal),
@@ -36,7 +38,7 @@ impl Stop {
     }
 }
 
-#[derive(Drop)]
+#[derive(Clone, Copy)]
 pub struct Streamed {
     pub stop: Stop,
     pub carried: usize,

@@ -6,7 +6,7 @@ use terms::refusal::Answer;
 
 // Lent from C as two words in a row.
 #[repr(C)]
-#[derive(Drop)]
+#[derive(Clone, Copy)]
 pub struct Totals {
     pub accepted: u64,
     pub reversals: u64,

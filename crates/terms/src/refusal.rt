@@ -2,7 +2,7 @@
 ghost use Rattle.terms.specs.Refusal.{number_of, refusal_of, value_of};
 ghost use Rattle.std.specs.Prelude.{◌≡◌};
 
-#[derive(Drop)]
+#[derive(Clone, Copy)]
 pub enum Refusal {
     // A size outside its limits, a table of wrong length, a stream too long, a total too large.
     Sizes,
@@ -58,7 +58,7 @@ impl Refusal {
 }
 
 // What a single call answers: done, with its number, or refused.
-#[derive(Drop)]
+#[derive(Clone, Copy)]
 pub enum Answer {
     Done(u64),
     Refused(Refusal),

@@ -2,7 +2,7 @@
 ghost use Rattle.terms.specs.Run.{bad_name, same_run};
 ghost use Rattle.std.specs.Prelude.{◌≡◌};
 
-#[derive(Drop)]
+#[derive(Clone, Copy)]
 pub struct Run {
     pub line: u32,
     pub trip: u32,

@@ -4,13 +4,13 @@ ghost use Rattle.terms.specs.Size.{store_words, RoomTold, LimitTold, LengthTold,
 ghost use Rattle.std.specs.Prelude.{◌≡◌};
 
 // Places for runs and cells for links: what fixes the length of every table.
-#[derive(Drop)]
+#[derive(Clone, Copy)]
 pub struct Room {
     pub n: usize,
     pub c: usize,
 }
 
-#[derive(Drop)]
+#[derive(Clone, Copy)]
 pub enum Roomed {
     Within(Room),
     Outside,
@@ -53,12 +53,12 @@ impl Room {
 }
 
 // How long a run's list may be.
-#[derive(Drop)]
+#[derive(Clone, Copy)]
 pub struct Limit {
     pub d: usize,
 }
 
-#[derive(Drop)]
+#[derive(Clone, Copy)]
 pub enum Limited {
     Within(Limit),
     Outside,
@@ -83,12 +83,12 @@ impl Limit {
 }
 
 // How many bytes a stream may have: 65,535 records of 15.
-#[derive(Drop)]
+#[derive(Clone, Copy)]
 pub struct Length {
     pub bytes: usize,
 }
 
-#[derive(Drop)]
+#[derive(Clone, Copy)]
 pub enum Measured {
     Within(Length),
     Outside,

@@ -1,5 +1,7 @@
 // The calls for programs in C and Rust, under the names that include/wormstrand.h declares. Each passes on a public call and packs
 // its answer; it judges nothing and knows no table.
+#![tactic(auto)]
+
 ghost use Rattle.std.specs.Prelude.{◌^◌, ◌<◌, ◌≡◌};
 ghost use Rattle.meaning.specs.Calls.{open_run, close_run, unlink, ask, reading};
 ghost use Rattle.meaning.specs.Promise.{Promise, EmptyPromise, LinkPromise, StreamPromise};
@@ -150,7 +152,7 @@ fn pack_result(streamed: Streamed) -> u64
 }
 
 // What a stream's caller gets: the totals brought forward, and refusal and number in one.
-#[derive(Drop)]
+#[derive(Clone, Copy)]
 struct Brought {
     totals: Totals,
     packed: u64,

@@ -1,0 +1,9 @@
+-- `record::reader::is_marked` meets its contract: what `same` tells of the first two bytes and the mark. Assumes nothing.
+use borrow.Author.Rules.{rules}
+use lib.Seq.{length-take-le}
+use mathlib.Core.Path.{sym}
+use Rattle.record.proofs.Parts.{marked_is}
+use Rattle.record.proofs.reader.is_marked.Goals as goal
+
+pub returns : goal.returns
+returns c = marked_is _ _ c.requires c.same.ensures.0 c.same.ensures.1
