@@ -1,0 +1,12 @@
+-- `find::seek` meets its contract: no cell passed aims at t. Assumes nothing.
+use Rattle.find.proofs.Finding.{Seeking, seeking_start, seeking_cell, seeking_more, seek_here, seek_nowhere}
+use Prim.Native.Nat.{◌-◌}
+use borrow.Author.Rules.{rules}
+use native.Mathlib.Omega.{arith}
+use Rattle.find.proofs.seek.Given as goal
+
+abbrev pub invariant-loop-position : goal.invariant-loop-position
+invariant-loop-position l = Seeking l.n l.c l.store l.v l.t l.many l.cell l.hook l.position
+
+abbrev pub decreases-loop-position : goal.decreases-loop-position
+decreases-loop-position l = l.many - l.position

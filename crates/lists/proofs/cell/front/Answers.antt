@@ -1,0 +1,9 @@
+-- `lists::cell::front` meets its contract. Assumes nothing.
+use Rattle.meaning.proofs.Steps.{nth, hook_at}
+use mathlib.Core.Path.{refl}
+use borrow.Author.Rules.{rules}
+use Rattle.lists.proofs.cell.front.Goals as goal
+
+pub returns : goal.returns
+unfolding nth hook_at
+returns c = record { position = refl; cell = c.head-cell.ensures.0; hook = c.head_at-hook.ensures }

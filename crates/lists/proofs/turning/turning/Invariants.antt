@@ -1,0 +1,18 @@
+-- `lists::turning::turning` meets its contract: what is left to turn comes to the whole. Assumes nothing.
+use Rattle.lists.proofs.Turns.{Turns, Walks, walks_start, walks_hand, walks_more, turns_start, turns_word, turns_list, turns_few, turns_walk, turns_next, ends_settled, ends_dense}
+use Prim.Native.Nat.{◌-◌}
+use borrow.Author.Rules.{rules}
+use native.Mathlib.Omega.{arith}
+use Rattle.lists.proofs.turning.turning.Given as goal
+
+abbrev pub invariant-walk : goal.invariant-walk
+invariant-walk l = Walks l.n l.c l.d l.w l.initial.store l.initial.waiting l.initial.top l.store l.waiting l.top l.left
+
+abbrev pub decreases-walk : goal.decreases-walk
+decreases-walk l = l.left
+
+abbrev pub invariant-loop-top : goal.invariant-loop-top
+invariant-loop-top l = Turns l.n l.c l.d l.m l.a l.initial.store l.store l.waiting l.top l.turned l.reversals
+
+abbrev pub decreases-loop-top : goal.decreases-loop-top
+decreases-loop-top l = l.m - l.turned

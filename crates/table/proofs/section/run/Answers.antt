@@ -1,0 +1,10 @@
+-- `table::section::run` meets its contract. Assumes nothing.
+use Rattle.meaning.specs.Table.{word}
+use mathlib.Core.Path.{refl}
+use native.Mathlib.Omega.{arith}
+use borrow.Author.Rules.{rules}
+use Rattle.table.proofs.section.run.Goals as goal
+
+pub returns : goal.returns
+unfolding word
+returns c = refl
