@@ -58,14 +58,14 @@ module _ (s : Day) where
   pub opened_start : (ps : List ℕ) → Opened ps 0
   opened_start ps = record { most = omega arith; each = λ k h. absurd (omega arith) }
 
-  pub opened_more : (ps : List ℕ) (i : ℕ) (b : Bool) → Opened ps i → i < length ps → b ≡ open_place s (get_or ps i 0) → not b ≡ false → Opened ps (i + 1)
+  pub opened_more : (ps : List ℕ) (i : ℕ) (b : Bool) → Opened ps i → i < length ps → b ≡ open_place s (get_or ps i 0) → b ≡ true → Opened ps (i + 1)
   opened_more ps i b o h e f = record {
     most = omega arith;
-    each = below_more (λ k. open_place s (get_or ps k 0) ≡ true) i o.each (sym e ∙ not-false b f);
+    each = below_more (λ k. open_place s (get_or ps k 0) ≡ true) i o.each (sym e ∙ f);
   }
 
-  pub opened_not : (ps : List ℕ) (i : ℕ) (b : Bool) → Opened ps i → i < length ps → b ≡ open_place s (get_or ps i 0) → not b ≡ true → false ≡ all_open s ps
-  opened_not ps i b o h e f = sym (one_shut ps i h (sym e ∙ not-true b f))
+  pub opened_not : (ps : List ℕ) (i : ℕ) (b : Bool) → Opened ps i → i < length ps → b ≡ open_place s (get_or ps i 0) → b ≡ false → false ≡ all_open s ps
+  opened_not ps i b o h e f = sym (one_shut ps i h (sym e ∙ f))
 
   pub opened_all : (ps : List ℕ) (i : ℕ) → Opened ps i → length ps ≤ i → true ≡ all_open s ps
   opened_all ps i o h = sym (none_shut ps (λ k q. o.each k (omega arith)))
@@ -185,17 +185,17 @@ module _ (n C D : ℕ) (w : List ℕ) (s : Sound n C D w) (ps : List ℕ) where
   pub reading_few : length ps < 2 → Carried (Refused BadSet)
   reading_few h = bad (rw (lt-ltb (length ps) 2 h))
 
-  pub reading_falls : (b : Bool) → b ≡ rising ps → not b ≡ true → Carried (Refused BadSet)
-  reading_falls b e f = bad (either_true (ltb (length ps) 2) (not (rising ps)) (rw (← e) f))
+  pub reading_falls : (b : Bool) → b ≡ rising ps → b ≡ false → Carried (Refused BadSet)
+  reading_falls b e f = bad (either_true (ltb (length ps) 2) (not (rising ps)) (rw (← e) (ap not f)))
 
   good : 2 ≤ length ps → rising ps ≡ true → bad_set ps ≡ false
   good two rise = rw (le-ltb (length ps) 2 two, rise)
 
   -- a place in the set isn't open
-  pub reading_shut : 2 ≤ length ps → (b : Bool) → b ≡ rising ps → not b ≡ false → (a : Bool) → a ≡ all_open (day_of n C w) ps → not a ≡ true
+  pub reading_shut : 2 ≤ length ps → (b : Bool) → b ≡ rising ps → b ≡ true → (a : Bool) → a ≡ all_open (day_of n C w) ps → a ≡ false
       → Carried (Refused NotOpen)
   reading_shut two b e f a g h =
-      refuses n C D (reading ps) w s NotOpen (rw (good two (sym e ∙ not-false b f), sym g ∙ not-true a h))
+      refuses n C D (reading ps) w s NotOpen (rw (good two (sym e ∙ f), sym g ∙ h))
 
   -- no refusal holds
   pub record Readable : Type 0 where
@@ -205,10 +205,10 @@ module _ (n C D : ℕ) (w : List ℕ) (s : Sound n C D w) (ps : List ℕ) where
     pub below : AllBelow n ps
     pub most : length ps ≤ n
 
-  pub readable : 2 ≤ length ps → (b : Bool) → b ≡ rising ps → not b ≡ false → (a : Bool) → a ≡ all_open (day_of n C w) ps → not a ≡ false → Readable
+  pub readable : 2 ≤ length ps → (b : Bool) → b ≡ rising ps → b ≡ true → (a : Bool) → a ≡ all_open (day_of n C w) ps → a ≡ true → Readable
   readable two b e f a g h =
-      let r : rising ps ≡ true = sym e ∙ not-false b f in
-      let o : all_open (day_of n C w) ps ≡ true = sym g ∙ not-false a h in
+      let r : rising ps ≡ true = sym e ∙ f in
+      let o : all_open (day_of n C w) ps ≡ true = sym g ∙ h in
       let l : AllBelow n ps = λ k q. rw (each_length n (named n C w)) at (open_below (day_of n C w) ps o k q) in
       record { two = two; rise = r; here = o; below = l; most = few n ps r l }
 

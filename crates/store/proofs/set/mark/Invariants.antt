@@ -1,0 +1,13 @@
+-- `store::set::mark` meets its contract: the places passed are marked. Assumes nothing.
+use Rattle.store.proofs.Rising.{Marking, marking_start, marking_more, marking_all}
+use lib.ListN.{length}
+use Prim.Native.Nat.{◌-◌}
+use borrow.Author.Rules.{rules}
+use native.Mathlib.Omega.{arith}
+use Rattle.store.proofs.set.mark.Given as goal
+
+abbrev pub invariant-loop-i : goal.invariant-loop-i
+invariant-loop-i l = Marking (length l.initial.marks) l.places l.marks l.i
+
+abbrev pub decreases-loop-i : goal.decreases-loop-i
+decreases-loop-i l = length l.places - l.i
