@@ -5,7 +5,7 @@ use mathlib.Core.List.{List}
 use mathlib.Core.Option.{some}
 use mathlib.Core.Path.{◌≡◌, sym, ap, subst, ◌∙◌}
 use lib.ListN.{length}
-use Rattle.terms.proofs.Told.{passed, failed}
+use Rattle.terms.proofs.Told.{yes_told, no_told}
 use Rattle.terms.specs.Size.{stream_most, LengthTold}
 use Rattle.terms.specs.Tells.{Tells}
 use Rattle.terms.specs.declared.size.Length.{Length}
@@ -61,16 +61,16 @@ module _ (n C D : ℕ) (bytes store spare waiting answers : List ℕ) (t : Total
   stays why r s =
       ((λ i. record { stop = stop_of (s.stop i); carried = s.carried i }), ap (tables store spare waiting answers) s.totals)
 
-  pub unfit : (b : Bool) (r : Streamed) → Tells b Fits → not b ≡ true → Stopped Sizes t r → StreamPromise n C D bytes before (result_of r) (tables store spare waiting answers r.totals)
+  pub unfit : (b : Bool) (r : Streamed) → Tells b Fits → b ≡ false → Stopped Sizes t r → StreamPromise n C D bytes before (result_of r) (tables store spare waiting answers r.totals)
   unfit b r h e s = record {
     sizes = λ k. stays Sizes r s;
-    unsound = λ l k. absurd (failed b e h (lent_fits l));
-    sound = λ l k. absurd (failed b e h (lent_fits l));
+    unsound = λ l k. absurd (no_told b e h (lent_fits l));
+    sound = λ l k. absurd (no_told b e h (lent_fits l));
   }
 
-  module _ (b : Bool) (h : Tells b Fits) (e : not b ≡ false) (v : Verdict) (says : Says v n C D store) where
+  module _ (b : Bool) (h : Tells b Fits) (e : b ≡ true) (v : Verdict) (says : Says v n C D store) where
     fit : Fits
-    fit = passed b e h
+    fit = yes_told b e h
 
     pub wrong_sizes : (r : Streamed) → v ≡ verdict.WrongSizes → Stopped Sizes t r → StreamPromise n C D bytes before (result_of r) (tables store spare waiting answers r.totals)
     wrong_sizes r q s =

@@ -1,0 +1,16 @@
+-- `calls::reading` meets its contract: what the verdict makes of the call. Assumes nothing.
+use Rattle.calls.proofs.Promising.{says_sound, promise_sizes, promise_unsound, promise_sound}
+use borrow.Author.Rules.{rules}
+use Rattle.calls.proofs.reading.Goals as goal
+
+pub reading-requires : goal.reading-requires
+reading-requires c = says_sound _ _ _ _ _ c.judge.ensures c.in-Sound.is
+
+pub returns-in-WrongSizes : goal.returns-in-WrongSizes
+returns-in-WrongSizes c = promise_sizes _ _ _ _ _ _ c.judge.ensures c.in-WrongSizes.is
+
+pub returns-in-Unsound : goal.returns-in-Unsound
+returns-in-Unsound c = promise_unsound _ _ _ _ _ _ c.judge.ensures c.in-Unsound.is
+
+pub returns-in-Sound : goal.returns-in-Sound
+returns-in-Sound c = promise_sound _ _ _ _ _ _ c.judge.ensures c.in-Sound.is _ _ c.reading.ensures
