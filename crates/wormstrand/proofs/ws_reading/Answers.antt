@@ -1,0 +1,7 @@
+-- `wormstrand::ws_reading` meets its contract: the public call promises an answer, and its packing is returned. Assumes nothing.
+use Rattle.wormstrand.proofs.Returning.{packed}
+use borrow.Author.Rules.{rules}
+use Rattle.wormstrand.proofs.ws_reading.Goals as goal
+
+pub returns : goal.returns
+returns c = packed _ _ _ _ _ _ _ _ c.reading.ensures c.pack.ensures
