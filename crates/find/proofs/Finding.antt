@@ -11,7 +11,7 @@ use borrow.Author.Count.{below_more}
 use borrow.Author.Tests.{eq-eqb, ne_eqb, lt-ltb, le-ltb}
 use Rattle.terms.specs.Run.{same_run}
 use Rattle.terms.specs.declared.run.Run.{Run}
-use Rattle.meaning.specs.Cells.{Cell, first, links}
+use Rattle.meaning.specs.Cells.{Cell, links}
 use Rattle.meaning.specs.Table.{head_at, next_at, head_of, length_of, target_of, next_of}
 use Rattle.meaning.specs.Day.{Day, cells_of, day_of, place_of, is_open, lowest}
 use Rattle.meaning.proofs.Counts.{links_count}

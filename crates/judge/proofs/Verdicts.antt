@@ -7,7 +7,7 @@ use lib.ListN.{length}
 use Rattle.terms.specs.Size.{InRoom, InLimit, store_words}
 use Rattle.terms.specs.Tells.{Tells}
 use Rattle.terms.proofs.Told.{eqb_told}
-use Rattle.meaning.specs.Soundness.{Sized, Sound}
+use Rattle.meaning.specs.Soundness.{Sized}
 use Rattle.judge.specs.Verdict.{Says}
 use Rattle.judge.specs.declared.Verdict.{Verdict}
 use Rattle.judge.specs.declared.Verdict.TheVariants as verdict

@@ -18,7 +18,6 @@ use Rattle.meaning.proofs.Waiting.{Waits, bare_waits, turn_waits, waits_place, w
 use Rattle.meaning.proofs.Words.{written_length}
 use Rattle.table.specs.Within.{AtList}
 use Rattle.lists.specs.Turning.{stack_of, lists_of, Linked, Walking, Beside, Handed, Begins, Ends}
-use Rattle.lists.specs.declared.turning.Ended.{Ended}
 use Rattle.lists.specs.declared.turning.Ended.TheVariants.{Settled, TooDense}
 use Rattle.find.proofs.Finding.{threaded_within}
 use Rattle.lists.proofs.Handling.{stack_length, stack_put, stack_take}

@@ -1,6 +1,6 @@
 -- A list is turned one cell at a time: its first cell is handed over, and what is left to turn is what was left before. So the
 -- table is threaded and its day told between any two cells. Assumes nothing.
-use Prim.Native.Nat.{ℕ, suc, ◌+◌, ◌-◌, ◌<◌}
+use Prim.Native.Nat.{ℕ, suc, ◌+◌, ◌<◌}
 use mathlib.Core.List.{List, [], ◌∷◌}
 use mathlib.Core.Path.{◌≡◌, sym, ap, ◌∙◌}
 use native.Mathlib.Omega.{arith}

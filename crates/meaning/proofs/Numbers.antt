@@ -9,7 +9,7 @@ use native.Mathlib.Omega.{arith}
 use lib.Dec.{eqb}
 use lib.ListN.{length}
 use Rattle.terms.specs.Refusal.{value_of}
-use Rattle.meaning.specs.Cells.{Cell, Lists, list, links, holds}
+use Rattle.meaning.specs.Cells.{Cell, list, links, holds}
 use Rattle.meaning.specs.Turning.{Ending, settled, dense}
 use Rattle.meaning.specs.Day.{Day, place_of}
 use Rattle.meaning.specs.Calls.{Call, open_run, close_run, link, unlink, ask, reading, Outcome, done, ended, link_in, do_link, do_unlink, cut, linked, yes1, tests, first_refusal, act, call}

@@ -4,7 +4,6 @@ use Prim.Native.Nat.{ℕ, ◌+◌, ◌-◌, ◌*◌, ◌≤◌, ◌<◌}
 use mathlib.Core.Path.{◌≡◌}
 use lib.ListN.{length}
 use Rattle.terms.specs.Run.{line_most}
-use Rattle.terms.specs.declared.run.Run.{Run}
 use Rattle.meaning.specs.Cells.{Weight, list, sum, same}
 use Rattle.meaning.specs.Day.{Day, run_of}
 

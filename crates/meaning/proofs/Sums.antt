@@ -1,6 +1,6 @@
 -- Sums over the links of all lists: what they become when a list is set, a cell is put at a front, a list is emptied or turned.
 -- A weight that is the same at both ends of a link keeps its sum under turning. Assumes nothing.
-use Prim.Native.Nat.{ℕ, zero, suc, ◌+◌, ◌-◌, ◌*◌, ◌≤◌, ◌<◌}
+use Prim.Native.Nat.{ℕ, zero, suc, ◌+◌, ◌*◌, ◌≤◌, ◌<◌}
 use mathlib.Core.List.{List, [], ◌∷◌, Memᴰ}
 use mathlib.Core.Path.{◌≡◌, refl, ◌∙◌}
 use native.Mathlib.Nat.{mul_comm}

@@ -7,7 +7,6 @@ use lib.ListN.{length}
 use borrow.Author.Tests.{le-leb, lt-leb}
 use Rattle.terms.specs.Run.{no_run, bad_name}
 use Rattle.terms.specs.declared.run.Run.{Run}
-use Rattle.terms.specs.declared.refusal.Answer.{Answer}
 use Rattle.terms.specs.declared.refusal.Answer.TheVariants.{Done, Refused}
 use Rattle.terms.specs.declared.refusal.Refusal.TheVariants.{BadName, NotOpen, Already, NoRoom, Touched}
 use Rattle.meaning.specs.Soundness.{Sound}

@@ -6,13 +6,10 @@ use mathlib.Core.Path.{◌≡◌, ap}
 use native.Mathlib.Decide.{dec_lt}
 use native.Mathlib.Omega.{arith}
 use Rattle.terms.specs.declared.refusal.Refusal.{Refusal}
-use Rattle.record.specs.declared.reader.Reading.{Reading}
-use Rattle.record.specs.declared.reader.Reading.TheVariants as reading
 use Rattle.meaning.specs.Soundness.{Sound}
 use Rattle.meaning.specs.Promise.{Tables, Result, stop_number, StreamLent, StreamPromise}
 use Rattle.meaning.proofs.Streamed.{progress_within}
 use Rattle.stream.specs.Streamed.{result_of}
-use Rattle.stream.specs.declared.Stop.{Stop}
 use Rattle.stream.specs.declared.Streamed.{Streamed}
 use Rattle.wormstrand.specs.Pack.{pack_result, PackedResult}
 use Rattle.wormstrand.proofs.Packing.{numbered}

@@ -1,6 +1,5 @@
 -- `calls::close` meets its contract: what the verdict makes of the call. Assumes nothing.
 use Rattle.calls.proofs.Promising.{says_sound, promise_sizes, promise_unsound, promise_sound}
-use borrow.Author.Rules.{rules}
 use Rattle.calls.proofs.close.Goals as goal
 
 pub close-requires : goal.close-requires

@@ -1,6 +1,5 @@
 -- `calls::empty` meets its contract: what the sizes and the length make of the call. Assumes nothing.
 use Rattle.calls.proofs.Promising.{empty_outside, own_room, empty_short, empty_within, empty_done}
-use borrow.Author.Rules.{rules}
 use Rattle.calls.proofs.empty.Goals as goal
 
 pub store_words-requires : goal.store_words-requires

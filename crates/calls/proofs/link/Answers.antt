@@ -1,6 +1,5 @@
 -- `calls::link` meets its contract: what the tables' lengths and the verdict make of the call. Assumes nothing.
 use Rattle.calls.proofs.Promising.{link_spare, link_waiting, link_sizes, link_unsound, says_sound, sound_lent, link_sound}
-use borrow.Author.Rules.{rules}
 use Rattle.calls.proofs.link.Goals as goal
 
 pub returns-then-spare-store : goal.returns-then-spare-store

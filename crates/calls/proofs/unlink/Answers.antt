@@ -1,6 +1,5 @@
 -- `calls::unlink` meets its contract: what the verdict makes of the call. Assumes nothing.
 use Rattle.calls.proofs.Promising.{says_sound, promise_sizes, promise_unsound, promise_sound}
-use borrow.Author.Rules.{rules}
 use Rattle.calls.proofs.unlink.Goals as goal
 
 pub unlink-requires : goal.unlink-requires

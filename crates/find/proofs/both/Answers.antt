@@ -1,7 +1,5 @@
 -- `find::both` meets its contract: the tests 3, 4 and 5 in turn. Assumes nothing.
 use Rattle.find.proofs.Naming.{first_bad, second_bad, one_run, first_shut, second_shut, both_open}
-use native.Mathlib.Omega.{arith}
-use borrow.Author.Rules.{rules}
 use Rattle.find.proofs.both.Goals as goal
 
 pub returns-then-is_bad : goal.returns-then-is_bad

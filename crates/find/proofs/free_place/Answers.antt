@@ -1,7 +1,5 @@
 -- `find::free_place` meets its contract: no place passed is free. Assumes nothing.
-use Rattle.find.proofs.Finding.{Taken, taken_start, taken_more, free_here, free_nowhere}
-use Prim.Native.Nat.{◌-◌}
-use borrow.Author.Rules.{rules}
+use Rattle.find.proofs.Finding.{taken_start, taken_more, free_here, free_nowhere}
 use native.Mathlib.Omega.{arith}
 use Rattle.find.proofs.free_place.Goals as goal
 

@@ -1,8 +1,6 @@
 -- `find::free_place` meets its contract: no place passed is free. Assumes nothing.
-use Rattle.find.proofs.Finding.{Taken, taken_start, taken_more, free_here, free_nowhere}
+use Rattle.find.proofs.Finding.{Taken}
 use Prim.Native.Nat.{◌-◌}
-use borrow.Author.Rules.{rules}
-use native.Mathlib.Omega.{arith}
 use Rattle.find.proofs.free_place.Given as goal
 
 abbrev pub invariant-loop-lowest : goal.invariant-loop-lowest

@@ -1,7 +1,5 @@
 -- `find::link_of` meets its contract. Assumes nothing.
 use Rattle.find.proofs.Finding.{seen_at, seen_nowhere}
-use native.Mathlib.Omega.{arith}
-use borrow.Author.Rules.{rules}
 use Rattle.find.proofs.link_of.Goals as goal
 
 pub returns-in-At : goal.returns-in-At

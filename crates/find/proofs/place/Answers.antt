@@ -1,7 +1,5 @@
 -- `find::place` meets its contract: no place passed has the name. Assumes nothing.
-use Rattle.find.proofs.Finding.{Unnamed, unnamed_start, unnamed_more, named_here, named_nowhere}
-use Prim.Native.Nat.{◌-◌}
-use borrow.Author.Rules.{rules}
+use Rattle.find.proofs.Finding.{unnamed_start, unnamed_more, named_here, named_nowhere}
 use native.Mathlib.Omega.{arith}
 use Rattle.find.proofs.place.Goals as goal
 

@@ -1,8 +1,6 @@
 -- `find::place` meets its contract: no place passed has the name. Assumes nothing.
-use Rattle.find.proofs.Finding.{Unnamed, unnamed_start, unnamed_more, named_here, named_nowhere}
+use Rattle.find.proofs.Finding.{Unnamed}
 use Prim.Native.Nat.{◌-◌}
-use borrow.Author.Rules.{rules}
-use native.Mathlib.Omega.{arith}
 use Rattle.find.proofs.place.Given as goal
 
 abbrev pub invariant-loop-v : goal.invariant-loop-v

@@ -1,6 +1,5 @@
 -- `find::seek` meets its contract: no cell passed aims at t. Assumes nothing.
-use Rattle.find.proofs.Finding.{Seeking, seeking_start, seeking_cell, seeking_more, seek_here, seek_nowhere}
-use Prim.Native.Nat.{◌-◌}
+use Rattle.find.proofs.Finding.{seeking_start, seeking_cell, seeking_more, seek_here, seek_nowhere}
 use borrow.Author.Rules.{rules}
 use native.Mathlib.Omega.{arith}
 use Rattle.find.proofs.seek.Goals as goal

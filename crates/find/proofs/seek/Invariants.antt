@@ -1,8 +1,6 @@
 -- `find::seek` meets its contract: no cell passed aims at t. Assumes nothing.
-use Rattle.find.proofs.Finding.{Seeking, seeking_start, seeking_cell, seeking_more, seek_here, seek_nowhere}
+use Rattle.find.proofs.Finding.{Seeking}
 use Prim.Native.Nat.{◌-◌}
-use borrow.Author.Rules.{rules}
-use native.Mathlib.Omega.{arith}
 use Rattle.find.proofs.seek.Given as goal
 
 abbrev pub invariant-loop-position : goal.invariant-loop-position

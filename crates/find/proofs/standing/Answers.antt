@@ -1,6 +1,5 @@
 -- `find::standing` meets its contract: the cells that are not free are the links. Assumes nothing.
 use Rattle.find.proofs.Finding.{free_fits, rest_stands}
-use borrow.Author.Rules.{rules}
 use Rattle.find.proofs.standing.Goals as goal
 
 pub overflow_sub-result : goal.overflow_sub-result

@@ -1,7 +1,6 @@
 -- `judge::judge` meets its contract: the judge's test is a test of soundness (Rules). Assumes nothing.
 use Rattle.terms.proofs.Told.{yes_told, no_told}
 use Rattle.meaning.proofs.Rules.{judged_sound, sound_judged}
-use borrow.Author.Rules.{rules}
 use Rattle.judge.proofs.judge.Goals as goal
 
 pub returns-then-not-sized : goal.returns-then-not-sized

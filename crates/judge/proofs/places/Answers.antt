@@ -1,9 +1,6 @@
 -- `judge::places` meets its contract. The loop's invariant: so for every place below v. Assumes nothing.
-use Prim.Native.Nat.{ℕ, ◌-◌, ◌≤◌, ◌<◌}
 use borrow.Author.Count.{below_none, below_more}
 use Rattle.terms.proofs.Told.{yes_told, no_told}
-use Rattle.judge.specs.Verdict.{Listed}
-use borrow.Author.Rules.{rules}
 use native.Mathlib.Omega.{arith}
 use Rattle.judge.proofs.places.Goals as goal
 

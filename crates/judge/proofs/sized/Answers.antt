@@ -2,7 +2,6 @@
 use Rattle.judge.proofs.Verdicts.{length_decides}
 use Rattle.terms.proofs.Sizes.{room_within, room_outside, room_own, limit_within, limit_outside}
 use native.Mathlib.Omega.{arith}
-use borrow.Author.Rules.{rules}
 use Rattle.judge.proofs.sized.Goals as goal
 
 pub returns-in-Outside : goal.returns-in-Outside

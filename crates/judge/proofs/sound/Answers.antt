@@ -1,6 +1,5 @@
 -- `judge::sound` meets its contract: the tests together are the judge's whole test. Assumes nothing.
 use Rattle.terms.proofs.Told.{yes_told, no_told, tells_iff}
-use borrow.Author.Rules.{rules}
 use Rattle.judge.proofs.sound.Goals as goal
 
 pub returns-then-not-lengths : goal.returns-then-not-lengths

@@ -1,7 +1,5 @@
 -- `stream::stream` meets its contract: each way out is the law of its case. Assumes nothing.
 use Rattle.stream.proofs.Promising.{unfit, wrong_sizes, not_sound, is_sound, carried_out}
-use native.Mathlib.Omega.{arith}
-use borrow.Author.Rules.{rules}
 use Rattle.stream.proofs.stream.Goals as goal
 
 pub returns-then-not-fits : goal.returns-then-not-fits

@@ -1,6 +1,5 @@
 -- `wormstrand::bring_forward` meets its contract: the stream promises a result, and its packing is returned. Assumes nothing.
 use Rattle.wormstrand.proofs.Streams.{carried_small, result_packed}
-use borrow.Author.Rules.{rules}
 use Rattle.wormstrand.proofs.bring_forward.Goals as goal
 
 pub pack_result-packed-requires : goal.pack_result-packed-requires

@@ -2,7 +2,6 @@
 use Rattle.stream.specs.Streamed.{stop_of}
 use Rattle.wormstrand.proofs.Streams.{stop_most}
 use native.Mathlib.Omega.{arith}
-use borrow.Author.Rules.{rules}
 use Rattle.wormstrand.proofs.pack_result.Goals as goal
 
 pub overflow_mul-result : goal.overflow_mul-result

@@ -1,6 +1,5 @@
 -- `wormstrand::ws_empty` meets its contract: the public call promises an answer, and its packing is returned. Assumes nothing.
 use Rattle.wormstrand.proofs.Returning.{empty_packed}
-use borrow.Author.Rules.{rules}
 use Rattle.wormstrand.proofs.ws_empty.Goals as goal
 
 pub returns : goal.returns

@@ -1,7 +1,6 @@
 -- `find::touch::touched` meets its contract: the list of v is empty and no cell passed aims at v, or one of the two was found. Assumes nothing.
-use Rattle.find.proofs.Touching.{Unaimed, unaimed_start, unaimed_more, own_touched, aimed_touched, untouched}
+use Rattle.find.proofs.Touching.{Unaimed}
 use Prim.Native.Nat.{◌-◌}
-use borrow.Author.Rules.{rules}
 use Rattle.find.proofs.touch.touched.Given as goal
 
 abbrev pub invariant-loop-i : goal.invariant-loop-i

@@ -2,7 +2,6 @@
 use Rattle.meaning.specs.Table.{NONE}
 use Rattle.terms.proofs.Told.{eqb_told, neb_told}
 use native.Mathlib.Omega.{arith}
-use borrow.Author.Rules.{rules}
 use Rattle.judge.proofs.chain.aim.Goals as goal
 
 pub returns-then-v-n : goal.returns-then-v-n

@@ -1,7 +1,6 @@
 -- `judge::chain::cell` meets its contract, test by test. Assumes nothing.
 use Rattle.terms.proofs.Told.{tells_iff}
 use native.Mathlib.Omega.{arith}
-use borrow.Author.Rules.{rules}
 use Rattle.judge.proofs.chain.cell.Goals as goal
 
 pub returns : goal.returns

@@ -1,13 +1,10 @@
 -- `judge::chain::lengths` meets its contract. The loop's invariant: the sum is that of the lengths below v, each of which is at
 -- most d; each is a word, so that the sum fits. Assumes nothing.
-use Prim.Native.Nat.{ℕ, ◌+◌, ◌*◌, ◌-◌, ◌≤◌, ◌<◌}
-use mathlib.Core.Path.{◌≡◌, sym, ◌∙◌}
+use Prim.Native.Nat.{◌+◌}
+use mathlib.Core.Path.{sym, ◌∙◌}
 use borrow.Author.Count.{below_none, below_more}
 use Rattle.terms.proofs.Told.{eqb_told}
-use Rattle.meaning.specs.Table.{length_of}
-use Rattle.meaning.specs.Soundness as meant
 use Rattle.meaning.proofs.Judged.{lengths_none, lengths_more, lengths_end}
-use borrow.Author.Rules.{rules}
 use native.Mathlib.Omega.{arith}
 use Rattle.judge.proofs.chain.lengths.Goals as goal
 

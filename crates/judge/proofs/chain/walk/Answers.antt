@@ -2,7 +2,7 @@
 -- is what is left of the length, so that it ends on every table. Assumes nothing.
 use Prim.Native.Nat.{◌<◌}
 use Rattle.terms.proofs.Told.{yes_told, no_told, eqb_told}
-use Rattle.meaning.proofs.Judged.{Walks, walks_out, walks_in, walks_end}
+use Rattle.meaning.proofs.Judged.{walks_out, walks_in, walks_end}
 use borrow.Author.Rules.{rules}
 use native.Mathlib.Omega.{arith}
 use Rattle.judge.proofs.chain.walk.Goals as goal

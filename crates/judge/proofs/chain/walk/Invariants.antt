@@ -1,10 +1,6 @@
 -- `judge::chain::walk` meets its contract. The loop's invariant: what is left of the walk says what the whole one says. The measure
 -- is what is left of the length, so that it ends on every table. Assumes nothing.
-use Prim.Native.Nat.{◌<◌}
-use Rattle.terms.proofs.Told.{yes_told, no_told, eqb_told}
-use Rattle.meaning.proofs.Judged.{Walks, walks_out, walks_in, walks_end}
-use borrow.Author.Rules.{rules}
-use native.Mathlib.Omega.{arith}
+use Rattle.meaning.proofs.Judged.{Walks}
 use Rattle.judge.proofs.chain.walk.Given as goal
 
 abbrev pub invariant-loop-left : goal.invariant-loop-left

@@ -1,6 +1,5 @@
 -- `judge::name::bucket` meets its contract. Assumes nothing.
 use Rattle.judge.proofs.Buckets.{bucket_is}
-use borrow.Author.Rules.{rules}
 use Rattle.judge.proofs.name.bucket.Goals as goal
 
 pub returns : goal.returns

@@ -1,7 +1,6 @@
 -- `judge::name::differ` meets its contract, test by test. Assumes nothing.
 use Rattle.terms.proofs.Told.{neb_told}
 use native.Mathlib.Omega.{arith}
-use borrow.Author.Rules.{rules}
 use Rattle.judge.proofs.name.differ.Goals as goal
 
 pub returns : goal.returns

@@ -1,8 +1,7 @@
 -- `judge::name::fresh` meets its contract. The loop's invariant: the walk through v's bucket has come to u (Buckets). The measure is
 -- u, since each place's chain goes down. Assumes nothing.
 use Rattle.terms.proofs.Told.{yes_told, no_told}
-use Rattle.judge.proofs.Buckets.{Walked, walk_starts, walk_goes, walk_falls, walk_ends}
-use borrow.Author.Rules.{rules}
+use Rattle.judge.proofs.Buckets.{walk_starts, walk_goes, walk_falls, walk_ends}
 use native.Mathlib.Omega.{arith}
 use Rattle.judge.proofs.name.fresh.Goals as goal
 

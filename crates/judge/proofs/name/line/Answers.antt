@@ -1,7 +1,6 @@
 -- `judge::name::line` meets its contract, test by test. Assumes nothing.
 use Rattle.terms.proofs.Told.{eqb_told}
 use native.Mathlib.Omega.{arith}
-use borrow.Author.Rules.{rules}
 use Rattle.judge.proofs.name.line.Goals as goal
 
 pub returns-then-name-eq0 : goal.returns-then-name-eq0

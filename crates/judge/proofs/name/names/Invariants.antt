@@ -1,13 +1,9 @@
 -- `judge::name::names` meets its contract. The loop's invariant: the buckets hold the places below v, and none of those has the name
 -- of one before it. Assumes nothing.
 use Prim.Native.Nat.{ℕ, ◌-◌, ◌≤◌, ◌<◌}
-use borrow.Author.Count.{below_none, below_more}
 use Rattle.meaning.proofs.Judged.{Fresh}
-use Rattle.terms.proofs.Told.{yes_told, no_told}
 use Rattle.judge.specs.Bucket.{Befores}
-use Rattle.judge.proofs.Buckets.{Lasts, lasts_none, befores_none, chained, lasts_more, befores_more}
-use borrow.Author.Rules.{rules}
-use native.Mathlib.Omega.{arith}
+use Rattle.judge.proofs.Buckets.{Lasts}
 use Rattle.judge.proofs.name.names.Given as goal
 
 abbrev pub invariant-loop-v : goal.invariant-loop-v

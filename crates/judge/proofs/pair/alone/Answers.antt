@@ -1,7 +1,7 @@
 -- `judge::pair::alone` meets its contract. The loop's invariant: what is left of the list walks right, and its pairs stand once
 -- exactly if those of the whole do. The measure is what is left of the length. Assumes nothing.
 use Rattle.terms.proofs.Told.{yes_told, no_told}
-use Rattle.meaning.proofs.Judged.{Walks, walks_out, Alone, alone_out, alone_in, alone_end}
+use Rattle.meaning.proofs.Judged.{walks_out, alone_out, alone_in, alone_end}
 use borrow.Author.Rules.{rules}
 use native.Mathlib.Omega.{arith}
 use Rattle.judge.proofs.pair.alone.Goals as goal

@@ -2,8 +2,7 @@
 -- The measure is what is left of the length, so that it ends on every table. Assumes nothing.
 use mathlib.Core.Logic.{inl, inr, ⊎_elim}
 use mathlib.Core.Path.{◌∙◌}
-use Rattle.meaning.proofs.Judged.{Has, has_out, has_in, has_end}
-use borrow.Author.Rules.{rules}
+use Rattle.meaning.proofs.Judged.{has_out, has_in, has_end}
 use native.Mathlib.Omega.{arith}
 use Rattle.judge.proofs.pair.has.Goals as goal
 

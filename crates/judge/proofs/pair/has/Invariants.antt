@@ -1,10 +1,6 @@
 -- `judge::pair::has` meets its contract. The loop's invariant: what is left of the list has the target exactly if the whole has it.
 -- The measure is what is left of the length, so that it ends on every table. Assumes nothing.
-use mathlib.Core.Logic.{inl, inr, ⊎_elim}
-use mathlib.Core.Path.{◌∙◌}
-use Rattle.meaning.proofs.Judged.{Has, has_out, has_in, has_end}
-use borrow.Author.Rules.{rules}
-use native.Mathlib.Omega.{arith}
+use Rattle.meaning.proofs.Judged.{Has}
 use Rattle.judge.proofs.pair.has.Given as goal
 
 abbrev pub invariant-loop-left : goal.invariant-loop-left

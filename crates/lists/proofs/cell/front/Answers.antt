@@ -1,7 +1,6 @@
 -- `lists::cell::front` meets its contract. Assumes nothing.
 use Rattle.meaning.proofs.Steps.{nth, hook_at}
 use mathlib.Core.Path.{refl}
-use borrow.Author.Rules.{rules}
 use Rattle.lists.proofs.cell.front.Goals as goal
 
 pub returns : goal.returns

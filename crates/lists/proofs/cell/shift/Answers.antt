@@ -1,7 +1,5 @@
 -- `lists::cell::shift` meets its contract: a cell moves in two halves. Assumes nothing.
 use Rattle.lists.proofs.Shifting.{shift_out, shift_in, shift_count, shift_words}
-use native.Mathlib.Omega.{arith}
-use borrow.Author.Rules.{rules}
 use Rattle.lists.proofs.cell.shift.Goals as goal
 
 pub unhook-requires : goal.unhook-requires

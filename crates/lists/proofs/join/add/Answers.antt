@@ -1,7 +1,5 @@
 -- `lists::join::add` meets its contract. Assumes nothing.
 use Rattle.lists.proofs.Joining.{add_shift, add_words}
-use native.Mathlib.Omega.{arith}
-use borrow.Author.Rules.{rules}
 use Rattle.lists.proofs.join.add.Goals as goal
 
 pub shift-requires : goal.shift-requires

@@ -1,7 +1,5 @@
 -- `lists::join::join` meets its contract: each way out is the law of its case. Assumes nothing.
-use Rattle.lists.proofs.Joining.{join_full, join_add, join_short, join_settling, join_settled, join_dense}
-use native.Mathlib.Omega.{arith}
-use borrow.Author.Rules.{rules}
+use Rattle.lists.proofs.Joining.{join_full, join_short, join_settling, join_settled, join_dense}
 use Rattle.lists.proofs.join.join.Goals as goal
 
 pub returns-then-count-eq0 : goal.returns-then-count-eq0

@@ -1,7 +1,6 @@
 -- `lists::join::settle` meets its contract: each way out is the law of its case. Assumes nothing.
 use mathlib.Core.Path.{◌∙◌}
 use Rattle.lists.proofs.Joining.{settle_begins, settle_done, settle_dense}
-use borrow.Author.Rules.{rules}
 use Rattle.lists.proofs.join.settle.Goals as goal
 
 pub turning-ended-requires : goal.turning-ended-requires

@@ -1,7 +1,6 @@
 -- `lists::turning::hand` meets its contract: one cell goes over. Assumes nothing.
 use Rattle.lists.proofs.Handling.{hand_cell, hand_shift, hand_fits, hand_waiting, hand_passing}
 use native.Mathlib.Omega.{arith}
-use borrow.Author.Rules.{rules}
 use Rattle.lists.proofs.turning.hand.Goals as goal
 
 pub target-x-requires : goal.target-x-requires

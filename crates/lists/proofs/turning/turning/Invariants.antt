@@ -1,8 +1,6 @@
 -- `lists::turning::turning` meets its contract: what is left to turn comes to the whole. Assumes nothing.
-use Rattle.lists.proofs.Turns.{Turns, Walks, walks_start, walks_hand, walks_more, turns_start, turns_word, turns_list, turns_few, turns_walk, turns_next, ends_settled, ends_dense}
+use Rattle.lists.proofs.Turns.{Turns, Walks}
 use Prim.Native.Nat.{◌-◌}
-use borrow.Author.Rules.{rules}
-use native.Mathlib.Omega.{arith}
 use Rattle.lists.proofs.turning.turning.Given as goal
 
 abbrev pub invariant-walk : goal.invariant-walk

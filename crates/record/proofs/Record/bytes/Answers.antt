@@ -1,5 +1,4 @@
 -- `record::Record::bytes` meets its contract: what is told of the kind's byte and of the bytes of each run. Assumes nothing.
-use borrow.Author.Rules.{rules}
 use Rattle.record.proofs.Record.bytes.Goals as goal
 
 pub returns : goal.returns

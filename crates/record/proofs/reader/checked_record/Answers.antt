@@ -1,6 +1,4 @@
 -- `record::reader::checked_record` meets its contract, by the laws of the second run. Assumes nothing.
-use borrow.Author.Rules.{rules}
-use borrow.Author.Tests.{not-true, not-false}
 use mathlib.Core.Path.{sym, ◌∙◌}
 use Rattle.record.proofs.Readings.{two_runs, one_run, one_run_more}
 use Rattle.record.proofs.reader.checked_record.Goals as goal

@@ -1,7 +1,4 @@
 -- `record::reader::is_marked` meets its contract: what `same` tells of the first two bytes and the mark. Assumes nothing.
-use borrow.Author.Rules.{rules}
-use lib.Seq.{length-take-le}
-use mathlib.Core.Path.{sym}
 use Rattle.record.proofs.Parts.{marked_is}
 use Rattle.record.proofs.reader.is_marked.Goals as goal
 

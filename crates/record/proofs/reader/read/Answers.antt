@@ -1,8 +1,6 @@
 -- `record::reader::read` meets its contract: each answer by the law of its case, from the tests that led there. Assumes nothing.
-use borrow.Author.Tests.{not-true, not-false}
 use mathlib.Core.Path.{sym, ◌∙◌}
 use Rattle.record.proofs.Readings.{at_end, cut_short, wrong_mark, wrong_kind, by_kind}
-use borrow.Author.Rules.{rules}
 use Rattle.record.proofs.reader.read.Goals as goal
 
 pub returns-then-rest-eq0 : goal.returns-then-rest-eq0

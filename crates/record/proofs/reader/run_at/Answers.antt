@@ -1,5 +1,4 @@
 -- `record::reader::run_at` meets its contract: what `pair_at` tells of each two bytes. Assumes nothing.
-use borrow.Author.Rules.{rules}
 use Rattle.record.proofs.Parts.{run_of_lem}
 use Rattle.record.proofs.reader.run_at.Goals as goal
 

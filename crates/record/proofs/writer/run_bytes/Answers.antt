@@ -1,5 +1,4 @@
 -- `record::writer::run_bytes` meets its contract: what `low` tells of each byte. Assumes nothing.
-use borrow.Author.Rules.{rules}
 use Rattle.record.proofs.writer.run_bytes.Goals as goal
 
 pub returns : goal.returns

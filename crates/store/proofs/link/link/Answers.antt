@@ -2,8 +2,6 @@
 use Rattle.store.proofs.Relating.{link_barred, already_first, already_second, link_joins, link_joined}
 use Rattle.store.proofs.Linking.{found_two}
 use Rattle.find.proofs.Finding.{named_both, named_barred, link_first, link_second, link_neither}
-use native.Mathlib.Omega.{arith}
-use borrow.Author.Rules.{rules}
 use Rattle.store.proofs.link.link.Goals as goal
 
 pub link_of-requires : goal.link_of-requires

@@ -1,8 +1,6 @@
 -- `store::link::unlink` meets its contract: each answer is the law of its case. Assumes nothing.
 use Rattle.store.proofs.Linking.{found_two, unlink_barred, unlink_first, unlink_second, unlink_neither}
 use Rattle.find.proofs.Finding.{named_both, named_barred, link_first, link_second, link_neither}
-use native.Mathlib.Omega.{arith}
-use borrow.Author.Rules.{rules}
 use Rattle.store.proofs.link.unlink.Goals as goal
 
 pub link_of-requires : goal.link_of-requires

@@ -1,8 +1,6 @@
 -- `store::run::close` meets its contract: each answer is the law of its test. Assumes nothing.
 use Rattle.store.proofs.Opening.{close_bad, close_shut, close_touched, closes}
 use Rattle.meaning.proofs.Threaded.{sound_threaded}
-use native.Mathlib.Omega.{arith}
-use borrow.Author.Rules.{rules}
 use Rattle.store.proofs.run.close.Goals as goal
 
 pub returns-then-is_bad : goal.returns-then-is_bad

@@ -1,7 +1,5 @@
 -- `store::run::open` meets its contract: each answer is the law of its test. Assumes nothing.
 use Rattle.store.proofs.Opening.{open_bad, open_already, open_full, opens}
-use native.Mathlib.Omega.{arith}
-use borrow.Author.Rules.{rules}
 use Rattle.store.proofs.run.open.Goals as goal
 
 pub returns-then-is_bad : goal.returns-then-is_bad

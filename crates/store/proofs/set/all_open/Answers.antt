@@ -1,10 +1,5 @@
 -- `store::set::all_open` meets its contract: the places passed are open. Assumes nothing.
-use Rattle.store.proofs.Setting.{Opened, opened_start, opened_more, opened_not, opened_all}
-use Rattle.meaning.specs.Day.{day_of}
-use lib.ListN.{length}
-use Prim.Native.Nat.{◌-◌}
-use borrow.Author.Rules.{rules}
-use native.Mathlib.Omega.{arith}
+use Rattle.store.proofs.Setting.{opened_start, opened_more, opened_not, opened_all}
 use Rattle.store.proofs.set.all_open.Goals as goal
 
 pub loop-i-init : goal.loop-i-init

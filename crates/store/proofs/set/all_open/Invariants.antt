@@ -1,10 +1,8 @@
 -- `store::set::all_open` meets its contract: the places passed are open. Assumes nothing.
-use Rattle.store.proofs.Setting.{Opened, opened_start, opened_more, opened_not, opened_all}
+use Rattle.store.proofs.Setting.{Opened}
 use Rattle.meaning.specs.Day.{day_of}
 use lib.ListN.{length}
 use Prim.Native.Nat.{◌-◌}
-use borrow.Author.Rules.{rules}
-use native.Mathlib.Omega.{arith}
 use Rattle.store.proofs.set.all_open.Given as goal
 
 abbrev pub invariant-loop-i : goal.invariant-loop-i

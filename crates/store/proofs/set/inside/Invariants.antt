@@ -1,11 +1,9 @@
 -- `store::set::inside` meets its contract: the lists of the places passed and of those to come add up to those of the set. Assumes nothing.
-use Rattle.store.proofs.Setting.{Adding, adding_start, adding_more, adding_all}
+use Rattle.store.proofs.Setting.{Adding}
 use Rattle.store.specs.Set.{marked}
 use Rattle.meaning.specs.Day.{cells_of}
 use lib.ListN.{length}
 use Prim.Native.Nat.{◌-◌}
-use borrow.Author.Rules.{rules}
-use native.Mathlib.Omega.{arith}
 use Rattle.store.proofs.set.inside.Given as goal
 
 abbrev pub invariant-loop-i : goal.invariant-loop-i

@@ -1,7 +1,5 @@
 -- `store::set::inside_list` meets its contract: the marks of the cells passed and of those to come are those of the list. Assumes nothing.
-use Rattle.store.proofs.Setting.{Counting, counting_start, counting_cell, counting_aim, counting_more, counting_all}
-use Prim.Native.Nat.{◌-◌}
-use borrow.Author.Rules.{rules}
+use Rattle.store.proofs.Setting.{counting_start, counting_cell, counting_aim, counting_more, counting_all}
 use native.Mathlib.Omega.{arith}
 use Rattle.store.proofs.set.inside_list.Goals as goal
 

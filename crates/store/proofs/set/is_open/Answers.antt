@@ -1,6 +1,5 @@
 -- `store::set::is_open` meets its contract: by the line word of the place. Assumes nothing.
 use Rattle.store.proofs.Setting.{past_shut, line_open}
-use borrow.Author.Rules.{rules}
 use Rattle.store.proofs.set.is_open.Goals as goal
 
 pub returns-then-v-n : goal.returns-then-v-n

@@ -1,9 +1,5 @@
 -- `store::set::mark` meets its contract: the places passed are marked. Assumes nothing.
-use Rattle.store.proofs.Rising.{Marking, marking_start, marking_more, marking_all}
-use lib.ListN.{length}
-use Prim.Native.Nat.{◌-◌}
-use borrow.Author.Rules.{rules}
-use native.Mathlib.Omega.{arith}
+use Rattle.store.proofs.Rising.{marking_start, marking_more, marking_all}
 use Rattle.store.proofs.set.mark.Goals as goal
 
 pub loop-i-init : goal.loop-i-init

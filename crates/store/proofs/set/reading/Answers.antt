@@ -1,10 +1,7 @@
 -- `store::set::reading` meets its contract: refused by the first test that holds, or the links that were counted are those with both ends in the set. Assumes nothing.
-use Rattle.store.proofs.Setting.{Readable, readable, reading_few, reading_falls, reading_shut, reading_marks, reading_done}
+use Rattle.store.proofs.Setting.{readable, reading_few, reading_falls, reading_shut, reading_marks, reading_done}
 use Rattle.meaning.proofs.Threaded.{sound_threaded}
 use mathlib.Core.Path.{refl}
-use Prim.Native.Nat.{◌-◌}
-use mathlib.Core.Logic.{⊎_elim}
-use borrow.Author.Rules.{rules}
 use native.Mathlib.Omega.{arith}
 use Rattle.store.proofs.set.reading.Goals as goal
 use Rattle.store.proofs.set.reading.Goals.{then-places-lt2-via-then-places-lt2, then-places-lt2-via-else-places-lt2+then-not-rising}

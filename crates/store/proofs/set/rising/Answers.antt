@@ -1,8 +1,5 @@
 -- `store::set::rising` meets its contract: the places passed rise. Assumes nothing.
-use Rattle.store.proofs.Rising.{Rises, rises_start, rises_more, rises_not, rises_all}
-use lib.ListN.{length}
-use Prim.Native.Nat.{◌-◌}
-use borrow.Author.Rules.{rules}
+use Rattle.store.proofs.Rising.{rises_start, rises_more, rises_not, rises_all}
 use Rattle.store.proofs.set.rising.Goals as goal
 
 pub loop-i-init : goal.loop-i-init

@@ -1,8 +1,7 @@
 -- `store::set::rising` meets its contract: the places passed rise. Assumes nothing.
-use Rattle.store.proofs.Rising.{Rises, rises_start, rises_more, rises_not, rises_all}
+use Rattle.store.proofs.Rising.{Rises}
 use lib.ListN.{length}
 use Prim.Native.Nat.{◌-◌}
-use borrow.Author.Rules.{rules}
 use Rattle.store.proofs.set.rising.Given as goal
 
 abbrev pub invariant-loop-i : goal.invariant-loop-i

@@ -1,8 +1,6 @@
 -- `stream::carry::carry` meets its contract: each kind is its call. Assumes nothing.
 use Rattle.stream.proofs.Carrying.{calmly, linking, by_kind}
 use mathlib.Core.Path.{refl}
-use native.Mathlib.Omega.{arith}
-use borrow.Author.Rules.{rules}
 use Rattle.stream.proofs.carry.carry.Goals as goal
 
 pub returns-in-Open : goal.returns-in-Open

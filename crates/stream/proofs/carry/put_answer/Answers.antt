@@ -2,7 +2,6 @@
 use Rattle.meaning.specs.Table.{written}
 use Rattle.stream.proofs.Stepping.{refusal_most}
 use native.Mathlib.Omega.{arith}
-use borrow.Author.Rules.{rules}
 use Rattle.stream.proofs.carry.put_answer.Goals as goal
 
 pub overflow_cast-answers : goal.overflow_cast-answers

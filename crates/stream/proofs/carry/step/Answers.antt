@@ -1,7 +1,5 @@
 -- `stream::carry::step` meets its contract. Assumes nothing.
 use Rattle.stream.proofs.Stepping.{stepped}
-use native.Mathlib.Omega.{arith}
-use borrow.Author.Rules.{rules}
 use Rattle.stream.proofs.carry.step.Goals as goal
 
 pub returns : goal.returns

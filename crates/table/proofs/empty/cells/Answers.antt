@@ -1,6 +1,5 @@
 -- `table::empty::cells` meets its contract: each section is the law's. Assumes nothing.
 use Rattle.table.proofs.Writing.{cells_emptied}
-use borrow.Author.Rules.{rules}
 use Rattle.table.proofs.empty.cells.Goals as goal
 
 pub returns : goal.returns

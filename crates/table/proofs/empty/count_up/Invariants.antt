@@ -1,10 +1,6 @@
 -- `table::empty::count_up` meets its contract: the words below i are written. Assumes nothing.
-use mathlib.Core.Path.{refl}
 use Prim.Native.Nat.{◌+◌, ◌-◌, ◌≤◌}
-use Rattle.table.proofs.Writing.{writes_none, writes_more, writes_all}
 use Rattle.table.specs.Writing.{Writes}
-use borrow.Author.Rules.{rules}
-use native.Mathlib.Omega.{arith}
 use Rattle.table.proofs.empty.count_up.Given as goal
 
 abbrev pub invariant-loop-i : goal.invariant-loop-i

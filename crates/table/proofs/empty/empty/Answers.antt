@@ -1,6 +1,5 @@
 -- `table::empty::empty` meets its contract: its two halves are the empty table. Assumes nothing.
 use Rattle.table.proofs.Writing.{halves_empty}
-use borrow.Author.Rules.{rules}
 use Rattle.table.proofs.empty.empty.Goals as goal
 
 pub returns : goal.returns

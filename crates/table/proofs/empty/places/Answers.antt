@@ -1,6 +1,5 @@
 -- `table::empty::places` meets its contract: each section is the law's. Assumes nothing.
 use Rattle.table.proofs.Writing.{places_emptied}
-use borrow.Author.Rules.{rules}
 use Rattle.table.proofs.empty.places.Goals as goal
 
 pub returns : goal.returns

@@ -1,7 +1,6 @@
 -- `table::section::count` meets its contract: the word is read where count_at says. Assumes nothing.
 use mathlib.Core.Path.{ap, ◌∙◌}
 use Rattle.meaning.specs.Table.{word}
-use borrow.Author.Rules.{rules}
 use Rattle.table.proofs.section.count.Goals as goal
 
 pub returns : goal.returns

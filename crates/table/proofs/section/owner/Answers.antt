@@ -1,7 +1,6 @@
 -- `table::section::owner` meets its contract: the word is read where owner_at says. Assumes nothing.
 use mathlib.Core.Path.{ap, ◌∙◌}
 use Rattle.meaning.specs.Table.{word}
-use borrow.Author.Rules.{rules}
 use Rattle.table.proofs.section.owner.Goals as goal
 
 pub returns : goal.returns

@@ -1,8 +1,6 @@
 -- `table::section::run` meets its contract. Assumes nothing.
 use Rattle.meaning.specs.Table.{word}
 use mathlib.Core.Path.{refl}
-use native.Mathlib.Omega.{arith}
-use borrow.Author.Rules.{rules}
 use Rattle.table.proofs.section.run.Goals as goal
 
 pub returns : goal.returns

@@ -1,7 +1,6 @@
 -- `table::section::target` meets its contract: the word is read where target_at says. Assumes nothing.
 use mathlib.Core.Path.{ap, ◌∙◌}
 use Rattle.meaning.specs.Table.{word}
-use borrow.Author.Rules.{rules}
 use Rattle.table.proofs.section.target.Goals as goal
 
 pub returns : goal.returns

@@ -2,7 +2,6 @@
 use Prim.Native.Nat.{ℕ, ◌+◌}
 use mathlib.Core.Path.{ap}
 use Rattle.table.proofs.Stepping.{hook_words}
-use borrow.Author.Rules.{rules}
 use Rattle.table.proofs.step.hook.Goals as goal
 
 pub returns : goal.returns

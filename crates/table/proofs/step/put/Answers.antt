@@ -1,8 +1,6 @@
 -- `table::step::put` meets its contract. Assumes nothing.
 use Rattle.meaning.specs.Table.{written}
 use mathlib.Core.Path.{refl}
-use native.Mathlib.Omega.{arith}
-use borrow.Author.Rules.{rules}
 use Rattle.table.proofs.step.put.Goals as goal
 
 pub returns : goal.returns

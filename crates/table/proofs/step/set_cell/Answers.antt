@@ -1,6 +1,5 @@
 -- `table::step::set_cell` meets its contract. Assumes nothing.
 use Rattle.meaning.proofs.Steps.{celled}
-use borrow.Author.Rules.{rules}
 use Rattle.table.proofs.step.set_cell.Goals as goal
 
 pub returns : goal.returns

@@ -1,6 +1,5 @@
 -- `table::step::set_list` meets its contract. Assumes nothing.
 use Rattle.meaning.proofs.Steps.{listed}
-use borrow.Author.Rules.{rules}
 use Rattle.table.proofs.step.set_list.Goals as goal
 
 pub returns : goal.returns

@@ -1,6 +1,5 @@
 -- `table::step::unhook` meets its contract. Assumes nothing.
 use Rattle.table.proofs.Stepping.{unhook_words}
-use borrow.Author.Rules.{rules}
 use Rattle.table.proofs.step.unhook.Goals as goal
 
 pub returns : goal.returns

@@ -1,9 +1,7 @@
 -- `table::whole::clear` meets its contract: below i every word is 0. Assumes nothing.
-use Prim.Native.Nat.{◌-◌}
-use lib.ListN.{length, replicate, length-replicate, length-set, get_or-replicate}
-use mathlib.Core.Path.{◌≡◌, refl, sym}
-use Rattle.table.proofs.Fill.{Filled, filled_none, filled_more, filled_all}
-use borrow.Author.Rules.{rules}
+use lib.ListN.{length, length-replicate, length-set, get_or-replicate}
+use mathlib.Core.Path.{refl, sym}
+use Rattle.table.proofs.Fill.{filled_none, filled_more, filled_all}
 use native.Mathlib.Omega.{arith}
 use Rattle.table.proofs.whole.clear.Goals as goal
 

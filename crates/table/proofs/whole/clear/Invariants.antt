@@ -1,10 +1,8 @@
 -- `table::whole::clear` meets its contract: below i every word is 0. Assumes nothing.
 use Prim.Native.Nat.{◌-◌}
-use lib.ListN.{length, replicate, length-replicate, length-set, get_or-replicate}
-use mathlib.Core.Path.{◌≡◌, refl, sym}
-use Rattle.table.proofs.Fill.{Filled, filled_none, filled_more, filled_all}
-use borrow.Author.Rules.{rules}
-use native.Mathlib.Omega.{arith}
+use lib.ListN.{length, replicate}
+use mathlib.Core.Path.{◌≡◌}
+use Rattle.table.proofs.Fill.{Filled}
 use Rattle.table.proofs.whole.clear.Given as goal
 
 abbrev pub invariant-loop-i : goal.invariant-loop-i

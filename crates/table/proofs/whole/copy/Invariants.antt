@@ -1,10 +1,7 @@
 -- `table::whole::copy` meets its contract: below i the target agrees with the source. Assumes nothing.
 use Prim.Native.Nat.{◌-◌}
 use lib.ListN.{length}
-use mathlib.Core.Path.{refl}
-use Rattle.table.proofs.Fill.{Filled, filled_none, filled_more, filled_all}
-use borrow.Author.Rules.{rules}
-use native.Mathlib.Omega.{arith}
+use Rattle.table.proofs.Fill.{Filled}
 use Rattle.table.proofs.whole.copy.Given as goal
 
 abbrev pub invariant-loop-i : goal.invariant-loop-i

@@ -3,7 +3,6 @@ use mathlib.Core.Path.{ap}
 use Rattle.terms.specs.Refusal.{value_of}
 use Rattle.stream.proofs.Forwards.{opening, closing, unlinking, asking, still, counted, uncounted}
 use native.Mathlib.Omega.{arith}
-use borrow.Author.Rules.{rules}
 use Rattle.stream.proofs.totals.Totals.forward.Goals as goal
 
 pub overflow_add-result-in-Done : goal.overflow_add-result-in-Done
