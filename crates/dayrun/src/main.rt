@@ -4,10 +4,13 @@
 #![tactic(auto)]
 
 ghost use Rattle.std.specs.Prelude.{◌+◌, ◌*◌, ◌≤◌, ◌<◌, length, ◌≡◌};
+ghost use Rattle.std.specs.Io.{ReadsAtMost};
 ghost use Rattle.dayrun.specs.Line.{bytes_most, answer_words, printed, DayEnds};
 ghost use Rattle.record.specs.Bytes.{record_bytes, kind_at};
 
 use record::Record;
+use std::io;
+use std::io::Read;
 use stream::totals::Totals;
 use terms::refusal::Refusal;
 
@@ -92,58 +95,75 @@ fn run_day(bytes: &[u8], answers: &mut [u32]) -> Ran
     }
 }
 
-// Numbers with a blank between them, on a line.
-fn print_four(a: u64, b: u64, c: u64, d: u64) {
-    io::print_decimal(1, a);
-    io::write_all(1, b" ");
-    io::print_decimal(1, b);
-    io::write_all(1, b" ");
-    io::print_decimal(1, c);
-    io::write_all(1, b" ");
-    io::print_decimal(1, d);
-    io::write_all(1, b"\n");
+// Numbers with a blank between them, on a line that begins with a word or with nothing.
+fn print_four(rt: &impl Print, first: &str, a: u64, b: u64, c: u64, d: u64) -> io::Result<()> {
+    println!(rt; "{first}{a} {b} {c} {d}")
 }
 
-fn print_line(line: Line) {
-    print_four(line.position, line.kind, line.refusal, line.number);
+fn print_line(rt: &impl Print, line: Line) -> io::Result<()> {
+    print_four(rt, "", line.position, line.kind, line.refusal, line.number)
 }
 
-fn print_end(ran: Ran) {
-    io::write_all(1, b"end ");
-    print_four(ran.refusal, ran.carried as u64, ran.reversals, ran.links);
+fn print_end(rt: &impl Print, ran: Ran) -> io::Result<()> {
+    print_four(
+        rt,
+        "end ",
+        ran.refusal,
+        ran.carried as u64,
+        ran.reversals,
+        ran.links,
+    )
 }
 
 // A line for each record carried out.
-fn print_records(bytes: &[u8], answers: &[u32], carried: usize)
+fn print_records(rt: &impl Print, bytes: &[u8], answers: &[u32], carried: usize) -> io::Result<()>
     requires { (record_bytes * carried ≤ length bytes.now) × (2 * carried ≤ length answers.now) }
 {
     let mut i: usize = 0;
     while i < carried {
-        print_line(record_line(bytes, answers, i));
+        print_line(rt, record_line(bytes, answers, i))?;
         i += 1;
     }
+    Ok(())
 }
 
-fn day(bytes: &[u8])
+fn day(rt: &impl Print, bytes: &[u8]) -> io::Result<()>
     requires { length bytes.now ≤ bytes_most }
 {
     let mut answers = [0u32; ANSWER_WORDS];
     let ran = run_day(bytes, &mut answers);
-    print_records(bytes, &answers, ran.carried);
-    print_end(ran);
+    print_records(rt, bytes, &answers, ran.carried)?;
+    print_end(rt, ran)
 }
 
-fn main() {
-    let mut bytes = [0u8; BYTES + 1];
-    let got = io::read_full(0, &mut bytes);
-    if got > BYTES {
-        print_end(Ran {
-            refusal: Refusal::Sizes.number(),
-            carried: 0,
-            reversals: 0,
-            links: 0,
-        });
-        return;
+// Reads until the bytes are full or the input ends, and says how many were read.
+fn read_full<R: Read>(from: &mut R, bytes: &mut [u8]) -> io::Result<usize>
+    ensures { ReadsAtMost result bytes.new }
+{
+    let mut done: usize = 0;
+    while done < bytes.len() {
+        let got = from.read(&mut bytes[done..])?;
+        if got == 0 {
+            break;
+        }
+        done += got;
     }
-    day(&bytes[..got]);
+    Ok(done)
+}
+
+fn main(rt: HostRuntime) -> io::Result<()> {
+    let mut bytes = [0u8; BYTES + 1];
+    let got = read_full(&mut rt.stdin(), &mut bytes)?;
+    if got > BYTES {
+        return print_end(
+            &rt,
+            Ran {
+                refusal: Refusal::Sizes.number(),
+                carried: 0,
+                reversals: 0,
+                links: 0,
+            },
+        );
+    }
+    day(&rt, &bytes[..got])
 }
