@@ -13,13 +13,13 @@ pub bounds-marks-aim : goal.bounds-marks-aim
 bounds-marks-aim c = omega (arith, counting_aim _ _ _ c.requires.0 _ _ _ _ _ _ c.loop-rest.invariant c.loop-rest-test.true c.target-aim.ensures.0, c.requires)
 
 pub overflow_add-sum : goal.overflow_add-sum
-overflow_add-sum c = omega (arith, c.shared_slice_known-in-loop-rest-1.given c.target-aim.result, c.loop-rest.invariant.fits, c.requires.0.room)
+overflow_add-sum c = omega (arith, c.type_inv.marks c.target-aim.result, c.loop-rest.invariant.fits, c.requires.0.room)
 
 pub next-cell-requires : goal.next-cell-requires
 next-cell-requires c = counting_cell _ _ _ c.requires.0 _ _ _ _ _ c.loop-rest.invariant c.loop-rest-test.true
 
 pub loop-rest-preserved : goal.loop-rest-preserved
-loop-rest-preserved c = counting_more _ _ _ c.requires.0 _ _ _ _ _ _ _ c.loop-rest.invariant c.loop-rest-test.true c.target-aim.ensures.0 (omega (arith, c.shared_slice_known-in-loop-rest-1.given c.target-aim.result)) c.next-cell.ensures.0
+loop-rest-preserved c = counting_more _ _ _ c.requires.0 _ _ _ _ _ _ _ c.loop-rest.invariant c.loop-rest-test.true c.target-aim.ensures.0 (omega (arith, c.type_inv.marks c.target-aim.result)) c.next-cell.ensures.0
 
 pub returns : goal.returns
 returns c = counting_all _ _ _ c.requires.0 _ _ _ _ _ c.loop-rest.invariant c.loop-rest-test.false

@@ -6,4 +6,4 @@ use Rattle.table.proofs.section.word.Goals as goal
 
 pub returns : goal.returns
 unfolding word
-returns c = (refl, omega (arith, c.shared_slice_known-1.given c.args.i))
+returns c = (refl, omega (arith, c.type_inv.table c.args.i))
