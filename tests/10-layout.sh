@@ -19,5 +19,5 @@ for edit in crates/*/must-fail/*.edit; do
     name=$(basename "$edit" .edit)
     grep -q "[\`/]$name\`" docs/TIGHT.md || wrong "$edit is not named in docs/TIGHT.md"
 done
-made=$(git ls-files 'crates/*/out/*' | head -n 1)
+made=$(git ls-files 'crates/*/out/*' | sed -n 1p)
 [ -z "$made" ] || wrong "$made is made by rt, and committed"
