@@ -3,8 +3,9 @@
 // the library, position and kind are those of the record.
 #![tactic(auto)]
 
-ghost use Rattle.std.specs.Prelude.{◌+◌, ◌*◌, ◌≤◌, ◌<◌, length, ◌≡◌};
+ghost use Rattle.std.specs.Prelude.{◌+◌, ◌*◌, ◌≤◌, ◌<◌, length, take, ◌≡◌, IfOk};
 ghost use Rattle.std.specs.Io.{ReadsAtMost};
+ghost use Rattle.std.specs.Io.KnownBytes.{Consumes, IsAtEnd};
 ghost use Rattle.dayrun.specs.Line.{bytes_most, answer_words, printed, DayEnds};
 ghost use Rattle.record.specs.Bytes.{record_bytes, kind_at};
 
@@ -136,9 +137,11 @@ fn day(rt: &impl Print, bytes: &[u8]) -> io::Result<()>
     print_end(rt, ran)
 }
 
-// Reads until the bytes are full or the input ends, and says how many were read.
+// Reads until the bytes are full or the input ends, and says how many were read: they are the next of the input.
 fn read_full<R: Read>(from: &mut R, bytes: &mut [u8]) -> io::Result<usize>
-    ensures { ReadsAtMost result bytes.new }
+    ensures within { ReadsAtMost result bytes.new }
+    ensures bytes { IfOk result (λ n. Consumes (R.remaining from.old) (R.remaining from.new) (take n bytes.new)) }
+    ensures end { IfOk result (λ n. n < length bytes.new → IsAtEnd (R.remaining from.new)) }
 {
     let mut done: usize = 0;
     while done < bytes.len() {
