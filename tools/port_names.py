@@ -15,6 +15,7 @@ import sys
 TOKEN = re.compile(r"(?<![\w'◌·-])[^\W\d_][\w']*(?:-[\w'≤<+*≡]+)*")
 MARKS = r"(?:(?:pattern|unfoldable|abbrev|pub) )*"
 DEFINES = re.compile(r"^\s*" + MARKS + r"([^\W\d_][\w'≤<+*≡-]*)(?: \{[^}]*\})?\s*:(?!:)", re.M)
+TYPE = re.compile(r"^\s*" + MARKS + r"(?:record|data) ([^\W\d_][\w'-]*)", re.M)
 MARKED = re.compile(r"^\s*" + r"(?:(?:pattern|pub) )*(?:unfoldable|abbrev) (?:pub )?([^\W\d_][\w'≤<+*≡-]*)", re.M)
 # Words of the library after which a lemma is named.
 WORDS = set("length append map sum replicate reverse drop take set get head suc zero le lt eq mem add mul sub div".split())
@@ -60,7 +61,7 @@ def files(*ends):
         for folder, dirs, names in os.walk(top):
             dirs[:] = sorted(d for d in dirs if d != "out")
             for name in sorted(names):
-                if name.endswith(ends) and name not in ("PORT.md", "DESIGN-PASS.md"):
+                if name.endswith(ends) and name != "PORT.md":
                     yield os.path.join(folder, name)
 
 
@@ -86,6 +87,7 @@ def defined():
             rest = text[m.end() : m.end() + 5]
             if not (of_function(path) and rest.startswith(" tie.")):
                 names.add(m.group(1))
+        names |= set(TYPE.findall(text))
         if not of_function(path):
             words |= {w for m in MARKED.finditer(text) if "_" in (w := snake(m.group(1))) and "-" not in w}
     return {n for n in names if not MADE.search(n)}, words

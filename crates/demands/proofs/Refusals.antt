@@ -28,7 +28,7 @@ use Rattle.meaning.specs.Turning.{over, Ending, settled, dense, turning}
 use Rattle.meaning.specs.Soundness.{Sound}
 use Rattle.meaning.specs.Day.{Day, day_of, place_of}
 use Rattle.meaning.specs.Calls.{Call, open_run, close_run, link, unlink, ask, reading as read_set, Outcome, Tests, first_refusal, tests, done, ended, do_link, do_unlink, act, call}
-use Rattle.meaning.specs.Stream.{call_of, read_on, read_all, answered, taken, reversed, latest, Day-records}
+use Rattle.meaning.specs.Stream.{call_of, read_on, read_all, answered, taken, reversed, latest, DayRecords}
 use Rattle.meaning.specs.Promise.{Carries, spare_after, waiting_after, Result}
 use Rattle.meaning.proofs.Decided.{sized_dec}
 use Rattle.meaning.proofs.Rules.{sound_or}
@@ -224,7 +224,7 @@ number_first none = 0
 number_first (some y) = number_of y
 
 -- what stops a stream stands in one of its records
-read_late : (s : List ℕ) (rest : Day-records) (why : Refusal) → (rest.stop ≡ some why → number_of WrongMark ≤ number_of why)
+read_late : (s : List ℕ) (rest : DayRecords) (why : Refusal) → (rest.stop ≡ some why → number_of WrongMark ≤ number_of why)
     → (read_on (reading_of s) rest).stop ≡ some why → number_of WrongMark ≤ number_of why
 read_late s rest why later = go (reading_of s) (reading_late s)
   where

@@ -19,14 +19,14 @@ use Rattle.find.specs.declared.Named.{Named}
 use Rattle.find.specs.declared.Named.TheVariants.{Both, Refused}
 
 -- the spot is that of a cell in the list of v
-pub record Spot-of (s : Spot) (n C : ℕ) (w : List ℕ) (v : ℕ) : Type 0 where
+pub record SpotOf (s : Spot) (n C : ℕ) (w : List ℕ) (v : ℕ) : Type 0 where
   pub within : s.position < length_of n C w v
   pub cell : s.cell ≡ cell_at n C w v s.position
   pub hook : s.hook ≡ hook_at n C w v s.position
 
 -- it is that of v's first link to t
 pub record Spotted (s : Spot) (n C : ℕ) (w : List ℕ) (v t : ℕ) : Type 0 where
-  pub spot : Spot-of s n C w v
+  pub spot : SpotOf s n C w v
   pub first : s.position ≡ seek t (cells_of n C w v)
 
 -- no cell of v's list has target t

@@ -10,7 +10,7 @@ use Rattle.meaning.proofs.Steps.{unhooked, hooked, moved, unhooked_long}
 use Rattle.meaning.proofs.Threaded.{cell_inside, hook_inside, length_most}
 use Rattle.table.specs.Stepping.{Unhooks, Hooks}
 use Rattle.lists.specs.Cell.{Shifts, Front}
-use Rattle.find.specs.Find.{Spot-of}
+use Rattle.find.specs.Find.{SpotOf}
 use Rattle.find.specs.declared.Spot.{Spot}
 use Rattle.find.proofs.Finding.{threaded_within}
 
@@ -52,5 +52,5 @@ module _ (n C : ℕ) (w : List ℕ) (u : ℕ) (s : Spot) (v t : ℕ) (p : Shifts
     shift_words w2 h = h ∙ rw (is_out, p.spot.cell)
 
 -- a list's first cell
-pub front_spot : (s : Spot) (n C : ℕ) (w : List ℕ) (u : ℕ) → Front s n C w u → 0 < length_of n C w u → Spot-of s n C w u
+pub front_spot : (s : Spot) (n C : ℕ) (w : List ℕ) (u : ℕ) → Front s n C w u → 0 < length_of n C w u → SpotOf s n C w u
 front_spot s n C w u f h = record { within = rw f.position h; cell = rw f.position f.cell; hook = rw f.position f.hook }

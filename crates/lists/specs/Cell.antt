@@ -2,7 +2,7 @@
 use Rattle.std.specs.Prelude.{ℕ, ◌^◌, ◌≤◌, ◌<◌, List, ◌≡◌}
 use Rattle.meaning.proofs.Steps.{cell_at, hook_at}
 use Rattle.meaning.proofs.Threaded.{Threaded}
-use Rattle.find.specs.Find.{Spot-of}
+use Rattle.find.specs.Find.{SpotOf}
 use Rattle.find.specs.declared.Spot.{Spot}
 
 pub record Shifts (n C : ℕ) (w : List ℕ) (u : ℕ) (s : Spot) (v t : ℕ) : Type 0 where
@@ -10,7 +10,7 @@ pub record Shifts (n C : ℕ) (w : List ℕ) (u : ℕ) (s : Spot) (v t : ℕ) : 
   pub from : u ≤ n
   pub to : v ≤ n
   pub other : u ≡ v → ⊥
-  pub spot : Spot-of s n C w u
+  pub spot : SpotOf s n C w u
   pub word : t < 2 ^ 32
 
 -- the spot of a list's first cell

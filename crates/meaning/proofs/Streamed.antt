@@ -11,14 +11,14 @@ use Rattle.record.specs.declared.reader.Reading.{Reading}
 use Rattle.record.specs.declared.reader.Reading.TheVariants as reading
 use Rattle.record.proofs.Readings.{whole_long}
 use Rattle.meaning.specs.Promise.{Tables, progress}
-use Rattle.meaning.specs.Stream.{Day-records, read_on, read_all, records_of, Progress, carry, carry_all}
+use Rattle.meaning.specs.Stream.{DayRecords, read_on, read_all, records_of, Progress, carry, carry_all}
 
 read_within : (k : ℕ) (s : List ℕ) → record_bytes * length (read_all k s).records ≤ length s
 unfolding read_all
 read_within zero s = omega arith
 read_within (suc k) s = go (reading_of s) refl (read_all k (drop record_bytes s)) (read_within k (drop record_bytes s))
   where
-    go : (r : Reading) → reading_of s ≡ r → (rest : Day-records) → record_bytes * length rest.records ≤ length (drop record_bytes s)
+    go : (r : Reading) → reading_of s ≡ r → (rest : DayRecords) → record_bytes * length rest.records ≤ length (drop record_bytes s)
         → record_bytes * length (read_on r rest).records ≤ length s
     go (reading.Whole x) e rest h = omega (arith, whole_long s x e, length-drop record_bytes s)
     go reading.End e rest h = omega arith

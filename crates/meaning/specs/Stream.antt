@@ -30,23 +30,23 @@ abbrev pub call_of : Record → Call
 call_of r = asks_for r.kind r.first r.second
 
 -- the records of a stream in order, and the refusal that stops it, if any
-pub record Day-records : Type 0 where
+pub record DayRecords : Type 0 where
   pub records : List Record
   pub stop : Option Refusal
 
 -- a record goes before what is read after it; the end, or a record that is none, is the last
-abbrev pub read_on : Reading → Day-records → Day-records
+abbrev pub read_on : Reading → DayRecords → DayRecords
 read_on (reading.Whole r) rest = record { records = r ∷ rest.records; stop = rest.stop }
 read_on reading.End rest = record { records = []; stop = none }
 read_on (reading.Refused why) rest = record { records = []; stop = some why }
 
 -- each is read from the rest of the stream that starts after the one before; k is at least the number of bytes
-unfoldable pub read_all : ℕ → List ℕ → Day-records
+unfoldable pub read_all : ℕ → List ℕ → DayRecords
 read_all zero s = record { records = []; stop = none }
 read_all (suc k) s = read_on (reading_of s) (read_all k (drop record_bytes s))
 
 -- the records of all the bytes
-abbrev pub records_of : List ℕ → Day-records
+abbrev pub records_of : List ℕ → DayRecords
 records_of s = read_all (length s) s
 
 -- an accepted link counts 1, and the reversals it answers

@@ -6,7 +6,7 @@ ghost use Rattle.meaning.specs.Soundness.{Sound};
 ghost use Rattle.meaning.specs.Table.{NONE};
 ghost use Rattle.meaning.proofs.Steps.{moved};
 ghost use Rattle.meaning.proofs.Threaded.{Threaded};
-ghost use Rattle.find.specs.Find.{Spot-of};
+ghost use Rattle.find.specs.Find.{SpotOf};
 
 use find::{Linked, Named, Spot};
 use lists::cell;
@@ -32,7 +32,7 @@ pub fn ask(store: &[u32], n: usize, c: usize, d: usize, p: Run, q: Run) -> Answe
 
 // The cell at a spot of u's list goes to the front of the free list.
 fn free(store: &mut [u32], n: usize, c: usize, u: usize, spot: Spot)
-    requires { Threaded n c store.old × (u < n) × Spot-of spot n c store.old u }
+    requires { Threaded n c store.old × (u < n) × SpotOf spot n c store.old u }
     ensures { store.new ≡ moved n c store.old u spot.position n NONE }
 {
     cell::shift(store, n, c, u, spot, n, section::NONE);

@@ -13,19 +13,19 @@ use Rattle.stream.specs.Totals.{Forward}
 use Rattle.stream.specs.declared.totals.Totals.{Totals}
 
 -- the kinds that count nothing
-pub data Counts-nothing : Kind → Type 0 where
-  opening : Counts-nothing Open
-  closing : Counts-nothing Close
-  unlinking : Counts-nothing Unlink
-  asking : Counts-nothing Ask
+pub data CountsNothing : Kind → Type 0 where
+  opening : CountsNothing Open
+  closing : CountsNothing Close
+  unlinking : CountsNothing Unlink
+  asking : CountsNothing Ask
 
-idle : (k : Kind) (a : Answer) → Counts-nothing k → (taken (asks_for k no_run no_run) a ≡ 0) × (reversed (asks_for k no_run no_run) a ≡ 0)
+idle : (k : Kind) (a : Answer) → CountsNothing k → (taken (asks_for k no_run no_run) a ≡ 0) × (reversed (asks_for k no_run no_run) a ≡ 0)
 idle k a opening = (refl, refl)
 idle k a closing = (refl, refl)
 idle k a unlinking = (refl, refl)
 idle k a asking = (refl, refl)
 
-pub still : (t : Totals) (k j : Kind) (a : Answer) → Counts-nothing j → k ≡ j → Forward t k a t
+pub still : (t : Totals) (k j : Kind) (a : Answer) → CountsNothing j → k ≡ j → Forward t k a t
 still t k j a h e = record { accepted = rw e (omega (arith, (idle j a h).0)); reversals = rw e (omega (arith, (idle j a h).1)) }
 
 pub counted : (t : Totals) (k : Kind) (a : Answer) (r : ℕ) → k ≡ Link → a ≡ Done r

@@ -18,7 +18,7 @@ use Rattle.record.specs.declared.reader.Reading.TheVariants.{Whole, End, Refused
 use Rattle.record.proofs.Readings.{at_end, whole_long}
 use Rattle.meaning.specs.Soundness.{Sound}
 use Rattle.meaning.specs.Day.{Day, day_of}
-use Rattle.meaning.specs.Stream.{Day-records, read_on, read_all, records_of, Progress, latest, carry, carry_all}
+use Rattle.meaning.specs.Stream.{DayRecords, read_on, read_all, records_of, Progress, latest, carry, carry_all}
 use Rattle.meaning.specs.Promise.{Lent, spare_after, waiting_after, Tables, StreamLent, progress, SpareIs, waiting_then, StreamCarries}
 use Rattle.meaning.proofs.Words.{written_length}
 use Rattle.stream.specs.Carry.{StepOk, Stepped, outcome}
@@ -162,7 +162,7 @@ module _ (n C D : ℕ) (bytes : List ℕ) (t₀ : Tables) (store spare waiting a
           let next : List Record = (read_all (length bytes - (carried + 1)) (drop (at + record_bytes) bytes)).records in
           let eq : carry_all D (read_all (length bytes - carried) (drop at bytes)).records (reached n C store answers carried t g.turned)
           ≡ carry_all D next (reached n C store' answers' (carried + 1) t' turned')
-          = ap (λ (x : Day-records). carry_all D x.records (reached n C store answers carried t g.turned)) step_read ∙ ap (carry_all D next) forward in
+          = ap (λ (x : DayRecords). carry_all D x.records (reached n C store answers carried t g.turned)) step_read ∙ ap (carry_all D next) forward in
           record {
             turned = turned';
             lent = record {
@@ -181,7 +181,7 @@ module _ (n C D : ℕ) (bytes : List ℕ) (t₀ : Tables) (store spare waiting a
             accepted = omega (arith, g.accepted, h.few.0);
             reversals = omega (arith, g.reversals, h.few.1);
             same = sym eq ∙ g.same;
-            stop = sym (ap (λ (x : Day-records). x.stop) step_read) ∙ g.stop;
+            stop = sym (ap (λ (x : DayRecords). x.stop) step_read) ∙ g.stop;
           }
         where
           long_answers : length answers' ≡ length answers
@@ -191,11 +191,11 @@ module _ (n C D : ℕ) (bytes : List ℕ) (t₀ : Tables) (store spare waiting a
   module _ (o : Reading) (eo : o ≡ reading_of s) (st : Option Refusal) (er : read_all (length bytes - carried) (drop at bytes) ≡ record { records = []; stop = st }) where
     done : reached n C store answers carried t g.turned ≡ progress n C D bytes t₀
     unfolding carry_all
-    done = sym (ap (λ (x : Day-records). carry_all D x.records (reached n C store answers carried t g.turned)) er) ∙ g.same
+    done = sym (ap (λ (x : DayRecords). carry_all D x.records (reached n C store answers carried t g.turned)) er) ∙ g.same
 
     ended : StreamCarries n C D bytes t₀ (record { stop = st; carried = carried }) (tables store spare waiting answers t)
     ended = record {
-      stop = sym (ap (λ (x : Day-records). x.stop) er) ∙ g.stop;
+      stop = sym (ap (λ (x : DayRecords). x.stop) er) ∙ g.stop;
       carried = ap (λ (p : Progress). p.carried) done;
       holds = record { sound = g.sound; day = ap (λ (p : Progress). p.day) done };
       spared = subst (λ (x : Option Day). SpareIs n C D x t₀.spare spare) (ap (λ (p : Progress). p.turned) done) g.spared;
