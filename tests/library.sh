@@ -14,7 +14,7 @@ compile+=(-std=c99 -O2 -Wall -Wextra -Wpedantic -Werror -Iinclude)
 
 # Building proves the crate, and those below it, as far as no earlier run's work on them is kept. So an archive that is newer than
 # every source is taken as it is. rt ci clears crates/wormstrand/out, and after it the archive is built anew.
-if [ ! -f "$archive" ] || [ -n "$(find crates crates.txt -name out -prune -o -type f -newer "$archive" -print -quit)" ]; then
+if [ ! -f "$archive" ] || [ -n "$(find crates crates.txt -name out -prune -o \( -type f -o -name src -o -name specs -o -name proofs \) -newer "$archive" -print -quit)" ]; then
     mkdir -p target
     (cd crates/wormstrand && rt lib) > target/library.log 2>&1 || { cat target/library.log; exit 1; }
 fi
