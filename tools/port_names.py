@@ -1,11 +1,12 @@
 #!/usr/bin/env python3
 """Brings this repository's own definitions and lemmas to today's spelling: words in snake case, a dash only between two names.
 
-usage: python3 tools/port_names.py     at the top of the repository, once, after the kit's port.py
+usage: python3 tools/port_names.py [--names] [--write]     at the top of the repository, once, after the kit's port.py
 
 It turns the names that specs/ and proofs/ define, wherever they stand: in specs/, proofs/, the ghost parts of src/, must-fail/ and
-docs/. Functions of src/, exported names, types and modules keep theirs. Names that would fall together in a file are printed,
-and then nothing is written.
+docs/. Functions of src/, exported names and modules keep theirs, types too but for three that had a dash. Names that would fall
+together in a file are printed, and then nothing is written. With --write it is written all the same: a word and a function of src/
+may have one name, and of those that are printed each pair is such a one. --names prints old and new names and writes nothing.
 """
 
 import os
@@ -117,16 +118,9 @@ def respell(text, path, new):
     if path.endswith(".edit"):
         return "".join(TOKEN.sub(put, s) if s.startswith(("old:", "new:")) else s for s in text.splitlines(True))
     comment = "--" if path.endswith(".antt") else "//"
-    lines = []
-    for line in text.splitlines(True):
-        code, mark, said = line, "", ""
-        at = 0 if line.lstrip().startswith(comment) else -1
-        if at == 0:
-            code, said = "", line
-        # A dashed word of a comment may be plain English: only names with a capital inside are turned there.
-        said = TOKEN.sub(lambda m: put(m) if "-" not in m.group(0) else m.group(0), said)
-        lines.append(TOKEN.sub(put, code) + mark + said)
-    return "".join(lines)
+    # A dashed word of a comment may be plain English: only names with a capital inside are turned there.
+    put_in_comment = lambda m: m.group(0) if "-" in m.group(0) else put(m)
+    return "".join(TOKEN.sub(put_in_comment if s.lstrip().startswith(comment) else put, s) for s in text.splitlines(True))
 
 
 def main():
