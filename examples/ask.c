@@ -1,8 +1,8 @@
 /*
  * A connection between two runs, from C: lends the tables, opens, links, asks and reads.
  *
- *     (cd crates/wormstrand && rt lib)
- *     cc -Iinclude examples/ask.c crates/wormstrand/out/libwormstrand.a -o ask && ./ask
+ *     tools/archive
+ *     cc -Iinclude examples/ask.c target/staticlib/libwormstrand.a -o ask && ./ask
  */
 #include <inttypes.h>
 #include <stdio.h>

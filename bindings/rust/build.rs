@@ -1,5 +1,5 @@
-//! Finds the proved archive, which `rt lib`, run in crates/wormstrand of the repository, writes to out/ there. Another folder
-//! that has it can be named by the variable WORMSTRAND_LIB.
+//! Finds the proved archive, which `tools/archive` writes to target/staticlib of the repository. Another folder that has
+//! it can be named by the variable WORMSTRAND_LIB.
 
 use std::env;
 use std::path::{Path, PathBuf};
@@ -20,7 +20,7 @@ fn main() {
     println!("cargo:rerun-if-changed={}", archive.display());
     if !archive.is_file() {
         panic!(
-            "{} is missing: run `rt lib` in crates/wormstrand of the repository first",
+            "{} is missing: run `tools/archive` in the repository first",
             archive.display()
         );
     }
@@ -33,7 +33,7 @@ fn folder() -> PathBuf {
         Some(folder) => PathBuf::from(folder),
         None => {
             Path::new(&env::var_os("CARGO_MANIFEST_DIR").expect("cargo says where the crate is"))
-                .join("../../crates/wormstrand/out")
+                .join("../../target/staticlib")
         }
     }
 }

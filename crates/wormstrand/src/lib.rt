@@ -1,5 +1,5 @@
-// The calls for programs in C and Rust, under the names that include/wormstrand.h declares. Each passes on a public call and packs
-// its answer; it judges nothing and knows no table.
+// The calls for programs in C and Rust, under the names that include/wormstrand.h declares and wormstrand_c exports. Each passes on
+// a public call and packs its answer; it judges nothing and knows no table.
 #![tactic(auto)]
 
 ghost use Rattle.std.specs.Prelude.{◌^◌, ◌<◌, ◌≡◌};
@@ -26,43 +26,25 @@ fn pack(answer: Answer) -> u64
     }
 }
 
-#[unsafe(no_mangle)]
-pub extern "C" fn ws_empty(n: usize, c: usize, store: &mut [u32]) -> u64
+pub fn ws_empty(n: usize, c: usize, store: &mut [u32]) -> u64
     ensures { Packed (λ a. EmptyPromise n c store.old a store.new) result }
 {
     pack(calls::empty(n, c, store))
 }
 
-#[unsafe(no_mangle)]
-pub extern "C" fn ws_open(
-    n: usize,
-    c: usize,
-    d: usize,
-    store: &mut [u32],
-    line: u32,
-    trip: u32,
-) -> u64
+pub fn ws_open(n: usize, c: usize, d: usize, store: &mut [u32], line: u32, trip: u32) -> u64
     ensures { Packed (λ a. Promise n c d (open_run (named line trip)) store.old a store.new) result }
 {
     pack(calls::open(n, c, d, store, Run { line, trip }))
 }
 
-#[unsafe(no_mangle)]
-pub extern "C" fn ws_close(
-    n: usize,
-    c: usize,
-    d: usize,
-    store: &mut [u32],
-    line: u32,
-    trip: u32,
-) -> u64
+pub fn ws_close(n: usize, c: usize, d: usize, store: &mut [u32], line: u32, trip: u32) -> u64
     ensures { Packed (λ a. Promise n c d (close_run (named line trip)) store.old a store.new) result }
 {
     pack(calls::close(n, c, d, store, Run { line, trip }))
 }
 
-#[unsafe(no_mangle)]
-pub extern "C" fn ws_link(
+pub fn ws_link(
     n: usize,
     c: usize,
     d: usize,
@@ -87,8 +69,7 @@ pub extern "C" fn ws_link(
     pack(calls::link(n, c, d, store, spare, waiting, p, q))
 }
 
-#[unsafe(no_mangle)]
-pub extern "C" fn ws_unlink(
+pub fn ws_unlink(
     n: usize,
     c: usize,
     d: usize,
@@ -111,8 +92,7 @@ pub extern "C" fn ws_unlink(
     pack(calls::unlink(n, c, d, store, p, q))
 }
 
-#[unsafe(no_mangle)]
-pub extern "C" fn ws_ask(
+pub fn ws_ask(
     n: usize,
     c: usize,
     d: usize,
@@ -135,8 +115,7 @@ pub extern "C" fn ws_ask(
     pack(calls::ask(n, c, d, store, p, q))
 }
 
-#[unsafe(no_mangle)]
-pub extern "C" fn ws_reading(n: usize, c: usize, d: usize, store: &[u32], places: &[u32]) -> u64
+pub fn ws_reading(n: usize, c: usize, d: usize, store: &[u32], places: &[u32]) -> u64
     ensures { Packed (λ a. Promise n c d (reading places.now) store.now a store.now) result }
 {
     pack(calls::reading(n, c, d, store, places))
@@ -182,8 +161,7 @@ fn bring_forward(
 }
 
 // The caller keeps the totals and lends them: they are brought forward in place.
-#[unsafe(no_mangle)]
-pub extern "C" fn ws_stream(
+pub fn ws_stream(
     n: usize,
     c: usize,
     d: usize,
