@@ -5,7 +5,7 @@ use mathlib.Core.Path.{◌≡◌, refl, sym, ap, subst, ◌∙◌}
 use native.Mathlib.Omega.{arith}
 use lib.ListN.{length}
 use Rattle.terms.specs.Size.{InRoom, InLimit, store_words}
-use Rattle.terms.specs.declared.refusal.Answer.{Answer}
+use Rattle.terms.specs.Refusal.{Answer}
 use Rattle.record.specs.Bytes.{record_bytes}
 use Rattle.meaning.specs.Cells.{links}
 use Rattle.meaning.specs.Day.{Day, day_of, empty_table}
@@ -15,7 +15,7 @@ use Rattle.meaning.specs.Stream.{Progress}
 use Rattle.meaning.proofs.EmptyDay.{empty_sound, empty_day_lem}
 use Rattle.meaning.proofs.Streamed.{records_within}
 use Rattle.meaning.proofs.Threaded.{Threaded, sound_threaded}
-use Rattle.stream.specs.Streamed.{tables, stop_of, result_of}
+use Rattle.stream.specs.Streamed.{tables, result_of}
 use Rattle.stream.specs.declared.Streamed.{Streamed}
 use Rattle.stream.specs.declared.totals.Totals.{Totals}
 use Rattle.dayrun.specs.Line.{places, cells, limit, bytes_most, answer_words, start, ran_day, DayEnds}
@@ -64,7 +64,7 @@ module _ (bytes answers spare waiting w₀ w : List ℕ) (a : Answer) (none : To
   pub stands : Threaded places cells w'
   stands = sound_threaded places cells limit w' carries.holds.sound
 
-  module _ (refusal standing : ℕ) (n : refusal ≡ stop_number (stop_of s.stop)) (l : standing ≡ links (day_of places cells w').lists) where
+  module _ (refusal standing : ℕ) (n : refusal ≡ stop_number s.stop) (l : standing ≡ links (day_of places cells w').lists) where
     pub ran : DayEnds bytes answers (record { refusal = refusal; carried = s.carried; reversals = s.totals.reversals; links = standing }) answers'
     ran = record {
       refusal = n ∙ ap stop_number carries.stop;

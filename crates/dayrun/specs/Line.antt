@@ -1,6 +1,6 @@
 -- Document 01, "Examples", dayrun: its sizes, how it starts, what its lines say.
 use Rattle.std.specs.Prelude.{ℕ, ◌+◌, ◌*◌, ◌/◌, List, ◌≡◌, get_or}
-use Rattle.std.proofs.Math.Option.{none}
+use Rattle.std.specs.Prelude.{None}
 use Rattle.record.specs.Bytes.{record_bytes, kind_at}
 use Rattle.meaning.specs.Cells.{links}
 use Rattle.meaning.specs.Day.{empty_day}
@@ -29,7 +29,7 @@ answer_words = 2 * (bytes_most / record_bytes)
 
 -- it starts empty
 abbrev pub start : List ℕ → Progress
-start answers = record { day = empty_day places cells; answers = answers; carried = 0; accepted = 0; reversals = 0; turned = none }
+start answers = record { day = empty_day places cells; answers = answers; carried = 0; accepted = 0; reversals = 0; turned = None }
 
 -- the records carried out in order
 abbrev pub ran_day : List ℕ → List ℕ → Progress

@@ -10,10 +10,12 @@ ghost use Rattle.dayrun.specs.Line.{bytes_most, answer_words, printed, DayEnds};
 ghost use Rattle.record.specs.Bytes.{record_bytes, kind_at};
 
 use record::Record;
-use std::io;
 use std::io::Read;
+use std::{fmt, io};
 use stream::totals::Totals;
+use table::view::Table;
 use terms::refusal::Refusal;
+use terms::size::Room;
 
 const PLACES: usize = 256;
 
@@ -29,7 +31,7 @@ const STORE_WORDS: usize = 4 * PLACES + 2 + 3 * CELLS;
 
 const ANSWER_WORDS: usize = 2 * (BYTES / Record::BYTES);
 
-// What is printed of a record.
+// What is printed of a record: numbers, as `printed` has them from the bytes and the answer words.
 #[derive(Clone, Copy)]
 struct Line {
     position: u64,
@@ -38,13 +40,33 @@ struct Line {
     number: u64,
 }
 
-// What is printed of the day's end.
+// What is printed of the day's end: the stop as the number that `DayEnds` says it is.
 #[derive(Clone, Copy)]
 struct Ran {
     refusal: u64,
     carried: usize,
     reversals: u64,
     links: u64,
+}
+
+impl fmt::Display for Line {
+    fn fmt<W: fmt::Write>(&self, f: &mut fmt::Formatter<W>) -> fmt::Result {
+        write!(
+            f,
+            "{} {} {} {}",
+            self.position, self.kind, self.refusal, self.number
+        )
+    }
+}
+
+impl fmt::Display for Ran {
+    fn fmt<W: fmt::Write>(&self, f: &mut fmt::Formatter<W>) -> fmt::Result {
+        write!(
+            f,
+            "end {} {} {} {}",
+            self.refusal, self.carried, self.reversals, self.links
+        )
+    }
 }
 
 fn record_line(bytes: &[u8], answers: &[u32], i: usize) -> Line
@@ -70,11 +92,7 @@ fn run_day(bytes: &[u8], answers: &mut [u32]) -> Ran
     let mut store = [0u32; STORE_WORDS];
     let mut spare = [0u32; STORE_WORDS];
     let mut waiting = [0u32; PLACES];
-    calls::empty(PLACES, CELLS, &mut store);
-    let none = Totals {
-        accepted: 0,
-        reversals: 0,
-    };
+    let _ = calls::empty(PLACES, CELLS, &mut store);
     let done = stream::stream(
         PLACES,
         CELLS,
@@ -84,46 +102,31 @@ fn run_day(bytes: &[u8], answers: &mut [u32]) -> Ran
         &mut waiting,
         bytes,
         answers,
-        none,
+        Totals::default(),
     );
-    let stop = done.stop;
-    let totals = done.totals;
+    let room = Room {
+        n: PLACES,
+        c: CELLS,
+    };
+    let table = Table {
+        words: &store,
+        room,
+    };
     Ran {
-        refusal: stop.number(),
+        refusal: done.refusal(),
         carried: done.carried,
-        reversals: totals.reversals,
-        links: find::standing(&store, PLACES, CELLS) as u64,
+        reversals: done.totals.reversals,
+        links: find::standing(table) as u64,
     }
-}
-
-// Numbers with a blank between them, on a line that begins with a word or with nothing.
-fn print_four(rt: &impl Print, first: &str, a: u64, b: u64, c: u64, d: u64) -> io::Result<()> {
-    println!(rt; "{first}{a} {b} {c} {d}")
-}
-
-fn print_line(rt: &impl Print, line: Line) -> io::Result<()> {
-    print_four(rt, "", line.position, line.kind, line.refusal, line.number)
-}
-
-fn print_end(rt: &impl Print, ran: Ran) -> io::Result<()> {
-    print_four(
-        rt,
-        "end ",
-        ran.refusal,
-        ran.carried as u64,
-        ran.reversals,
-        ran.links,
-    )
 }
 
 // A line for each record carried out.
 fn print_records(rt: &impl Print, bytes: &[u8], answers: &[u32], carried: usize) -> io::Result<()>
     requires { (record_bytes * carried ≤ length bytes.now) × (2 * carried ≤ length answers.now) }
 {
-    let mut i: usize = 0;
-    while i < carried {
-        print_line(rt, record_line(bytes, answers, i))?;
-        i += 1;
+    for i in 0..carried {
+        let line = record_line(bytes, answers, i);
+        println!(rt; "{line}")?;
     }
     Ok(())
 }
@@ -134,10 +137,11 @@ fn day(rt: &impl Print, bytes: &[u8]) -> io::Result<()>
     let mut answers = [0u32; ANSWER_WORDS];
     let ran = run_day(bytes, &mut answers);
     print_records(rt, bytes, &answers, ran.carried)?;
-    print_end(rt, ran)
+    println!(rt; "{ran}")
 }
 
-// Reads until the bytes are full or the input ends, and says how many were read: they are the next of the input.
+// Reads until the bytes are full or the input ends, and says how many were read: they are the next of the input. A read gives as many
+// bytes as it likes, so no range counts them.
 fn read_full<R: Read>(from: &mut R, bytes: &mut [u8]) -> io::Result<usize>
     ensures within { ReadsAtMost result bytes.new }
     ensures bytes { IfOk result (λ n. Consumes (R.remaining from.old) (R.remaining from.new) (take n bytes.new)) }
@@ -158,15 +162,13 @@ fn main(rt: HostRuntime) -> io::Result<()> {
     let mut bytes = [0u8; BYTES + 1];
     let got = read_full(&mut rt.stdin(), &mut bytes)?;
     if got > BYTES {
-        return print_end(
-            &rt,
-            Ran {
-                refusal: Refusal::Sizes.number(),
-                carried: 0,
-                reversals: 0,
-                links: 0,
-            },
-        );
+        let ran = Ran {
+            refusal: u64::from(Refusal::Sizes),
+            carried: 0,
+            reversals: 0,
+            links: 0,
+        };
+        return println!(rt; "{ran}");
     }
     day(&rt, &bytes[..got])
 }

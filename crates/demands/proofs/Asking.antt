@@ -4,7 +4,7 @@ use Prim.Native.Nat.{ℕ, ◌+◌, ◌*◌, ◌≤◌, ◌<◌}
 use mathlib.Core.Bool.{Bool, true, false, ◌||◌, ◌&&◌}
 use mathlib.Core.List.{[]}
 use mathlib.Core.Logic.{⊎_elim}
-use mathlib.Core.Option.{none, some}
+use Rattle.std.specs.Prelude.{None, Some}
 use mathlib.Core.Path.{◌≡◌, refl, sym, ap, subst₂, ◌∙◌}
 use native.Mathlib.Decide.{ℕ_discrete}
 use native.Mathlib.Omega.{arith}
@@ -71,7 +71,7 @@ between_places n D s ok u v hu hv m = sum_ext _ (pair u v) s.lists each_link
 
 -- a question about the two ends of a link is not refused
 link_asked : (n D : ℕ) (s : Day) → Right n D s → (u v : ℕ) (p q : Run) → u < n → v < n → 0 < (run_of s u).line → 0 < (run_of s v).line → (u ≡ v → ⊥)
-    → p ≡ run_of s u → q ≡ run_of s v → first_refusal (tests s (ask p q)) ≡ none
+    → p ≡ run_of s u → q ≡ run_of s v → first_refusal (tests s (ask p q)) ≡ None
 link_asked n D s ok u v p q hu hv lu lv m eu ev =
     let lp : 0 < p.line = rw eu lu in
     let lq : 0 < q.line = rw ev lv in
@@ -83,7 +83,7 @@ link_asked n D s ok u v p q hu hv lu lv m eu ev =
     rw (gp, gq, o, op, oq)
 
 -- where it is refused, no link stands
-no_link : (n D : ℕ) (s : Day) → Right n D s → (p q : Run) (why : Refusal) → first_refusal (tests s (ask p q)) ≡ some why → between p q s ≡ 0
+no_link : (n D : ℕ) (s : Day) → Right n D s → (p q : Run) (why : Refusal) → first_refusal (tests s (ask p q)) ≡ Some why → between p q s ≡ 0
 no_link n D s ok p q why e =
     omega (arith, sum-le_in (by (λ x y. yes1 (same_pair p q x y)) s) (λ v c. 0) s.lists none_here, sum-zero (λ v c. 0) s.lists (λ v c. refl))
   where
@@ -94,7 +94,7 @@ no_link n D s ok p q why e =
         go false f = omega arith
         go true f =
             let t : (v < n) × (c.target < n) × (0 < (run_of s v).line) × (0 < (run_of s c.target).line) × (v ≡ c.target → ⊥) = ends_open n D s ok v c m in
-            let z : first_refusal (tests s (ask p q)) ≡ none = ⊎_elim
+            let z : first_refusal (tests s (ask p q)) ≡ None = ⊎_elim
             (λ a. link_asked n D s ok v c.target p q t.0 t.1 t.2 t.3 t.4 a.0 a.1)
             (λ a. link_asked n D s ok c.target v p q t.1 t.0 t.3 t.2 (λ k. t.4 (sym k)) a.0 a.1)
             (pair_is p q (run_of s v) (run_of s c.target) f) in

@@ -1,11 +1,12 @@
 -- Laws of pairs of runs and of choices of directions, and of sums over the links that stand by their runs. Assumes nothing.
 use Prim.Native.Nat.{ℕ, ◌+◌, ◌-◌, ◌*◌, ◌≤◌, min}
-use mathlib.Core.Bool.{Bool, true, false, ◌||◌, ◌&&◌}
+use mathlib.Core.Bool.{true, ◌&&◌, or_comm, and_comm}
 use mathlib.Core.Logic.{◌⊎◌, inl, inr, ⊎_elim}
-use mathlib.Core.Path.{◌≡◌, refl, ap}
+use mathlib.Core.Path.{◌≡◌, ap}
 use native.Mathlib.Decide.{ℕ_discrete}
 use native.Mathlib.Nat.{mul_comm, min-eq_left}
 use native.Mathlib.Omega.{arith}
+use Rattle.std.proofs.lemmas.Bool.{and_parts, or_cases}
 use Rattle.terms.specs.Run.{same_run}
 use Rattle.terms.specs.declared.run.Run.{Run}
 use Rattle.terms.proofs.Names.{same_refl, same_eq as run-eq}
@@ -21,38 +22,14 @@ abbrev pub disagree : Directions → Day → ℕ
 disagree C s = weigh (λ x y. C y x) s
 
 -- ---- pairs
-pub yes_le : (b : Bool) → yes1 b ≤ 1
-yes_le true = omega arith
-yes_le false = omega arith
-
-either_comm : (a b : Bool) → a || b ≡ b || a
-either_comm true true = refl
-either_comm true false = refl
-either_comm false true = refl
-either_comm false false = refl
-
-both_comm : (a b : Bool) → a && b ≡ b && a
-both_comm true true = refl
-both_comm true false = refl
-both_comm false true = refl
-both_comm false false = refl
-
-pub both_true : (a b : Bool) → a && b ≡ true → (a ≡ true) × (b ≡ true)
-both_true true b e = (refl, e)
-both_true false b e = absurd (let z : ◌≡◌ {A = ℕ} 0 1 = cc in omega arith)
-
-either_cases : (a b : Bool) → a || b ≡ true → (a ≡ true) ⊎ (b ≡ true)
-either_cases true b e = inl refl
-either_cases false b e = inr e
-
 pub pair_swap : (p q x y : Run) → same_pair p q x y ≡ same_pair p q y x
 unfolding same_pair
-pair_swap p q x y = either_comm (same_run p x && same_run q y) (same_run p y && same_run q x)
+pair_swap p q x y = or_comm (same_run p x && same_run q y) (same_run p y && same_run q x)
 
 pub pair_comm : (p q x y : Run) → same_pair p q x y ≡ same_pair q p x y
 unfolding same_pair
 pair_comm p q x y =
-    rw (both_comm (same_run p x) (same_run q y), both_comm (same_run p y) (same_run q x)) (either_comm (same_run q y && same_run p x) (same_run q x && same_run p y))
+    rw (and_comm (same_run p x) (same_run q y), and_comm (same_run p y) (same_run q x)) (or_comm (same_run q y && same_run p x) (same_run q x && same_run p y))
 
 pub pair_self : (x y : Run) → same_pair x y x y ≡ true
 unfolding same_pair
@@ -61,9 +38,9 @@ pair_self x y = rw (same_pair, same_refl x, same_refl y)
 pub pair_is : (p q x y : Run) → same_pair p q x y ≡ true → ((p ≡ x) × (q ≡ y)) ⊎ ((p ≡ y) × (q ≡ x))
 unfolding same_pair
 pair_is p q x y e = ⊎_elim
-    (λ a. inl (let t : (same_run p x ≡ true) × (same_run q y ≡ true) = both_true _ _ a in (run-eq p x t.0, run-eq q y t.1)))
-    (λ a. inr (let t : (same_run p y ≡ true) × (same_run q x ≡ true) = both_true _ _ a in (run-eq p y t.0, run-eq q x t.1)))
-    (either_cases (same_run p x && same_run q y) (same_run p y && same_run q x) e)
+    (λ a. inl (let t : (same_run p x ≡ true) × (same_run q y ≡ true) = and_parts _ _ a in (run-eq p x t.0, run-eq q y t.1)))
+    (λ a. inr (let t : (same_run p y ≡ true) × (same_run q x ≡ true) = and_parts _ _ a in (run-eq p y t.0, run-eq q x t.1)))
+    (or_cases (same_run p x && same_run q y) (same_run p y && same_run q x) e)
 
 -- ---- directions
 -- F doesn't ask in which of the two runs' lists the link stands

@@ -1,21 +1,18 @@
 -- No link is refused as too dense if the links with it can be directed with at most half of D, rounded down, outward at each run.
 -- Assumes nothing.
 use Prim.Native.Nat.{ℕ, ◌+◌, ◌*◌, ◌/◌, ◌<◌, ◌≤◌}
-use mathlib.Core.Bool.{Bool, true, false}
+use mathlib.Core.Bool.{true≢false}
 use mathlib.Core.List.{List, [], ◌∷◌}
-use mathlib.Core.Option.{Option, some}
-use mathlib.Core.Path.{◌≡◌, ap, ap₂, ◌∙◌}
+use Rattle.std.specs.Prelude.{Err}
+use mathlib.Core.Path.{◌≡◌, sym, ap, ap₂, ◌∙◌}
 use native.Mathlib.Omega.{arith}
 use lib.ListN.{length}
-use Rattle.terms.specs.Refusal.{number_of}
 use Rattle.terms.specs.declared.run.Run.{Run}
-use Rattle.terms.specs.declared.refusal.Refusal.{Refusal}
 use Rattle.terms.specs.declared.refusal.Refusal.TheVariants.{TooDense}
-use Rattle.terms.specs.declared.refusal.Answer.TheVariants.{Refused}
 use Rattle.meaning.specs.Cells.{Cell, Lists, sum}
 use Rattle.meaning.specs.Turning.{Ending, settled, dense}
 use Rattle.meaning.specs.Day.{Day, place_of}
-use Rattle.meaning.specs.Calls.{link, Tests, tests, first_refusal, ended, do_link, call}
+use Rattle.meaning.specs.Calls.{link, tests, ended, do_link, call}
 use Rattle.meaning.proofs.Right.{Right, pair}
 use Rattle.meaning.proofs.Sums.{push_sum}
 use Rattle.meaning.proofs.Turnings.{Settles}
@@ -23,38 +20,23 @@ use Rattle.meaning.proofs.Finding.{Both}
 use Rattle.meaning.proofs.Kept.{joined, run, link_run, new_link, call_case}
 use Rattle.demands.specs.History.{Directions, unsure, outward, Directed, DirectedWith}
 use Rattle.demands.proofs.Choices.{by}
+use Rattle.demands.proofs.Refusals.{dense_answer, dense_first, first_sparse, tests_sparse}
 use Rattle.demands.proofs.Potential.{holding, potential, Paid}
 use Rattle.demands.proofs.Pays.{link_settles}
 
--- none of the tests gives refusal 9
-abbrev Others : Tests → Type 0
-Others [] = Unit {0}
-Others (t ∷ ts) = (number_of t.1 ≡ 9 → ⊥) × Others ts
-
-first_other : (ts : Tests) → Others ts → (why : Refusal) → first_refusal ts ≡ some why → why ≡ TooDense → ⊥
-first_other [] o why e f = let z : ◌≡◌ {A = ℕ} 0 1 = cc in omega arith
-first_other (t ∷ ts) o why e f = go t.0 e (first_other ts o.1)
-  where
-    go : (b : Bool) → ◌≡◌ {A = Option Refusal} (elim b [ true ↦ some t.1 | false ↦ first_refusal ts ]) (some why)
-        → ((why : Refusal) → first_refusal ts ≡ some why → why ≡ TooDense → ⊥) → ⊥
-    go true g h = let k : t.1 ≡ why = cc in o.0 (ap number_of (k ∙ f))
-    go false g h = h why g f
-
 -- a turning that settles is no refusal
-settled_other : (s : Day) (fs : List ℕ) (o : Ending) (I : Lists → List ℕ → ℕ → Type 0) → Settles I o → (ended s fs o).answer ≡ Refused TooDense → ⊥
+settled_other : (s : Day) (fs : List ℕ) (o : Ending) (I : Lists → List ℕ → ℕ → Type 0) → Settles I o → (ended s fs o).answer ≡ Err TooDense → ⊥
 settled_other s fs (settled ls r) I h f = let y : ◌≡◌ {A = ℕ} 0 1 = cc in omega arith
 settled_other s fs dense I h f = h
 
 pub never_dense_from : (n D : ℕ) (s : Day) → Right n D s → (p q : Run) (C : Directions) → DirectedWith p q (D / 2) C s
-    → (call D s (link p q)).answer ≡ Refused TooDense → ⊥
+    → (call D s (link p q)).answer ≡ Err TooDense → ⊥
 never_dense_from n D s ok p q C g =
-    call_case (λ o. o.answer ≡ Refused TooDense → ⊥) D s (link p q)
-    (λ why e f.
-    first_other (tests s (link p q))
-    ((λ z. omega arith), ((λ z. omega arith), ((λ z. omega arith), ((λ z. omega arith), ((λ z. omega arith), tt))))) why e (cc))
+    call_case (λ o. o.answer ≡ Err TooDense → ⊥) D s (link p q)
+    (λ why e f. true≢false (sym (ap dense_answer f) ∙ sym (ap dense_first e) ∙ first_sparse (tests s (link p q)) (tests_sparse s (link p q))))
     (λ e. go (new_link n D s ok p q e) s.free)
   where
-    go : Both n s p q × (sum (pair (place_of s p) (place_of s q)) s.lists ≡ 0) → (fs : List ℕ) → (do_link D s (place_of s p) (place_of s q) fs).answer ≡ Refused TooDense → ⊥
+    go : Both n s p q × (sum (pair (place_of s p) (place_of s q)) s.lists ≡ 0) → (fs : List ℕ) → (do_link D s (place_of s p) (place_of s q) fs).answer ≡ Err TooDense → ⊥
     go t [] f = let y : ◌≡◌ {A = ℕ} 0 1 = cc in omega arith
     go t (i ∷ fs) f =
         let u : ℕ = place_of s p in
@@ -66,6 +48,6 @@ never_dense_from n D s ok p q C g =
           few = λ x. omega (arith, g.few x, push_sum (by (outward C x) s) s.lists u c hu, ap₂ (outward C x) t.0.run_p t.0.run_q);
         } in
         let half : 2 * (D / 2) ≤ D = omega arith in
-        link_run (λ a s'. a ≡ Refused TooDense → ⊥) D s u v i fs
+        link_run (λ a s'. a ≡ Err TooDense → ⊥) D s u v i fs
         (settled_other s fs (run D s u v i) (Paid n D (D / 2) half C s (joined s u v i) g⁺ ((D + 1) * potential C s (joined s u v i)))
         (link_settles n D (D / 2) half s ok u v i t.0.place_p t.0.place_q C g⁺)) f

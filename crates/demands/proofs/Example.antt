@@ -9,14 +9,14 @@ use lib.Dec.{ltb}
 use Rattle.terms.specs.Run.{bad_name, same_run}
 use Rattle.terms.specs.declared.run.Run.{Run}
 use Rattle.terms.specs.declared.refusal.Refusal.TheVariants.{TooDense}
-use Rattle.terms.specs.declared.refusal.Answer.TheVariants.{Refused}
+use Rattle.std.specs.Prelude.{Err}
 use Rattle.terms.proofs.Names.{same_eq as run-eq}
 use Rattle.meaning.specs.Cells.{Cell, Lists, same}
 use Rattle.meaning.specs.Turning.{hand_all, turning}
 use Rattle.meaning.specs.Day.{Day, empty_day}
 use Rattle.meaning.specs.Calls.{Call, open_run, link, call, yes1}
+use Rattle.meaning.proofs.Numbers.{yes_most}
 use Rattle.demands.specs.History.{after, same_pair, unsure, outward, differ, accepted, reversals, Directions, DirectedWith, History, calls, AllDirected, changes}
-use Rattle.demands.proofs.Choices.{yes_le}
 use Rattle.demands.proofs.Theorems.{demand_3}
 
 -- three runs are linked with a, which has the trip number of b on another line
@@ -50,7 +50,7 @@ not_two p x y n = go (same_run p x) refl (same_run p y) refl
     go : (s : Bool) → same_run p x ≡ s → (t : Bool) → same_run p y ≡ t → yes1 s + yes1 t ≤ 1
     go true f true g = let z : same_run x y ≡ true = rw (← run-eq p x f) g in absurd (let w : ◌≡◌ {A = ℕ} 0 1 = cc in omega arith)
     go true f false g = omega arith
-    go false f t g = omega (arith, yes_le t)
+    go false f t g = omega (arith, yes_most t)
 
 pub directed : AllDirected 1 2 (empty_day 4 3) history
 unfolding bad_name same_run same hand_all turning unsure outward
@@ -161,7 +161,7 @@ nine_is : nine ≡ nine_laid
 nine_is = ap (λ s. after 3 (after 3 s some_links) more_links) none_yet ∙ (ap (λ s. after 3 s more_links) some_yet ∙ nine_yet)
 
 abbrev Refusing : Day → Type 0
-Refusing s = DirectedWith (r 3) (r 1) 2 round s × ((call 3 s (link (r 3) (r 1))).answer ≡ Refused TooDense)
+Refusing s = DirectedWith (r 3) (r 1) 2 round s × ((call 3 s (link (r 3) (r 1))).answer ≡ Err TooDense)
 
 refusing_laid : Refusing nine_laid
 unfolding bad_name same_run same hand_all turning unsure outward

@@ -5,16 +5,16 @@ use mathlib.Core.List.{List, [], ◌∷◌}
 use mathlib.Core.Path.{◌≡◌, refl, sym, ap}
 use native.Mathlib.Nat.{add-mul, mul_comm}
 use native.Mathlib.Omega.{arith}
-use Rattle.terms.specs.Refusal.{value_of}
+use Rattle.std.proofs.lemmas.Bool.{or_parts}
+use Rattle.terms.specs.Refusal.{value_of, Answer}
 use Rattle.terms.specs.declared.run.Run.{Run}
-use Rattle.terms.specs.declared.refusal.Answer.{Answer}
 use Rattle.meaning.specs.Day.{Day, place_of}
 use Rattle.meaning.specs.Calls.{Call, open_run, close_run, link, unlink, ask, reading, linked, call, yes1}
 use Rattle.meaning.proofs.Right.{Right}
-use Rattle.meaning.proofs.Finding.{either_false}
+use Rattle.meaning.proofs.Numbers.{yes_most}
 use Rattle.meaning.proofs.Kept.{call_right, call_case}
 use Rattle.demands.specs.History.{after, accepts, same_pair, joins, parts, related, joinings, partings, asked, taken, reversed, accepted, reversals, between, changed, calls, changes, Directions, History, AllDirected}
-use Rattle.demands.proofs.Choices.{disagree, yes_le, yes_pair_swaps}
+use Rattle.demands.proofs.Choices.{disagree, yes_pair_swaps}
 use Rattle.demands.proofs.Law.{call_law, comes_pair, goes_pair}
 use Rattle.demands.proofs.Asking.{asked_between}
 use Rattle.demands.proofs.Pays.{Pays, call_paid}
@@ -30,7 +30,7 @@ after_right n D s ok (c ∷ cs) = after_right n D (call D s c).after (call_right
 
 -- asking says 0 or 1
 pub asked_le : (D : ℕ) (s : Day) (p q : Run) → asked D s p q ≤ 1
-asked_le D s p q = call_case (λ o. value_of o.answer ≤ 1) D s (ask p q) (λ why e. omega arith) (λ e. yes_le (linked s (place_of s p) (place_of s q)))
+asked_le D s p q = call_case (λ o. value_of o.answer ≤ 1) D s (ask p q) (λ why e. omega arith) (λ e. yes_most (linked s (place_of s p) (place_of s q)))
 
 module _ (n D : ℕ) (p q : Run) where
   -- one call: the links between p and q
@@ -57,7 +57,7 @@ module _ (n D : ℕ) (p q : Run) where
   pub apart_from : (s : Day) → Right n D s → (c : Call) → (joins p q c (call D s c).answer || parts p q c (call D s c).answer) ≡ false
       → asked D (call D s c).after p q ≡ asked D s p q
   apart_from s ok c e =
-      let t : (joins p q c (call D s c).answer ≡ false) × (parts p q c (call D s c).answer ≡ false) = either_false _ _ e in
+      let t : (joins p q c (call D s c).answer ≡ false) × (parts p q c (call D s c).answer ≡ false) = or_parts _ _ e in
       omega (
         arith,
         between_call s ok c,
@@ -71,8 +71,8 @@ module _ (n D : ℕ) (p q : Run) where
   not_both : (c : Call) (a : Answer) → yes1 (joins p q c a) + yes1 (parts p q c a) ≤ 1
   not_both (open_run x) a = omega arith
   not_both (close_run x) a = omega arith
-  not_both (link x y) a = omega (arith, yes_le (accepts a && same_pair p q x y))
-  not_both (unlink x y) a = omega (arith, yes_le (accepts a && same_pair p q x y))
+  not_both (link x y) a = omega (arith, yes_most (accepts a && same_pair p q x y))
+  not_both (unlink x y) a = omega (arith, yes_most (accepts a && same_pair p q x y))
   not_both (ask x y) a = omega arith
   not_both (reading ps) a = omega arith
 

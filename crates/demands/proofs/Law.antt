@@ -3,7 +3,7 @@
 use Prim.Native.Nat.{ℕ, ◌+◌, ◌*◌, ◌<◌}
 use mathlib.Core.Bool.{Bool, true, false, not, ◌&&◌}
 use mathlib.Core.List.{List, [], ◌∷◌}
-use mathlib.Core.Option.{none}
+use Rattle.std.specs.Prelude.{None}
 use mathlib.Core.Path.{◌≡◌, refl, ap, ap₂}
 use native.Mathlib.Omega.{arith}
 use lib.ListN.{length}
@@ -13,7 +13,7 @@ use Rattle.terms.specs.Run.{no_run}
 use Rattle.terms.specs.declared.run.Run.{Run}
 use Rattle.terms.specs.declared.refusal.Refusal.{Refusal}
 use Rattle.terms.specs.declared.refusal.Refusal.TheVariants.{NoLink}
-use Rattle.terms.specs.declared.refusal.Answer.{Answer}
+use Rattle.terms.specs.Refusal.{Answer}
 use Rattle.meaning.specs.Cells.{Cell, list, without, seek, holds, sum}
 use Rattle.meaning.specs.Turning.{Ending, settled, dense}
 use Rattle.meaning.specs.Day.{Day, run_of, place_of, lowest}
@@ -67,14 +67,14 @@ cut_weigh s u v hu e F =
 
 module _ (n D : ℕ) (s : Day) (ok : Right n D s) where
   -- no link touches the place that an open takes or a close leaves
-  pub open_untouched : (p : Run) → first_refusal (tests s (open_run p)) ≡ none → Untouched s (lowest s)
+  pub open_untouched : (p : Run) → first_refusal (tests s (open_run p)) ≡ None → Untouched s (lowest s)
   open_untouched p e = free_untouched n D s ok (lowest s) (lowest_free s (leb-false _ _ (all_failed (tests s (open_run p)) e).1.1.0))
 
-  pub close_untouched : (p : Run) → first_refusal (tests s (close_run p)) ≡ none → Untouched s (place_of s p)
+  pub close_untouched : (p : Run) → first_refusal (tests s (close_run p)) ≡ None → Untouched s (place_of s p)
   close_untouched p e = untouched s (place_of s p) (all_failed (tests s (close_run p)) e).1.1.0
 
   -- an unlink that no test refuses finds its link
-  pub old_link : (p q : Run) → first_refusal (tests s (unlink p q)) ≡ none → Both n s p q × (linked s (place_of s p) (place_of s q) ≡ true)
+  pub old_link : (p q : Run) → first_refusal (tests s (unlink p q)) ≡ None → Both n s p q × (linked s (place_of s p) (place_of s q) ≡ true)
   old_link p q e =
       let ts : Tests = (not (linked s (place_of s p) (place_of s q)), NoLink) ∷ [] in
       let t : Both n s p q × Failed ts = both_named n s ok.places p q ts e in
@@ -107,7 +107,7 @@ module _ (n D : ℕ) (s : Day) (ok : Right n D s) where
         go true q = omega (arith, cut_weigh s u v (omega (arith, ok.rows)) q F)
         go false q = omega (arith, sw (run_of s u) (run_of s v), cut_weigh s v u (omega (arith, ok.rows)) (either_true _ _ e q) F)
 
-    act_law : (c : Call) → first_refusal (tests s c) ≡ none
+    act_law : (c : Call) → first_refusal (tests s c) ≡ None
         → weigh F (act D s c).after + goes F c (act D s c).answer ≡ weigh F s + comes F c (act D s c).answer
     act_law (open_run p) e = omega (arith, rename_weigh s (lowest s) p (open_untouched p e) F)
     act_law (close_run p) e = omega (arith, rename_weigh s (place_of s p) no_run (close_untouched p e) F)

@@ -3,7 +3,7 @@
 use Prim.Native.Nat.{ℕ, ◌+◌, ◌-◌, ◌*◌, ◌≤◌, ◌<◌}
 use mathlib.Core.Bool.{Bool, true, false}
 use mathlib.Core.List.{List, [], ◌∷◌}
-use mathlib.Core.Option.{none}
+use Rattle.std.specs.Prelude.{None, Err}
 use mathlib.Core.Path.{◌≡◌, refl, sym, subst, ◌∙◌}
 use native.Mathlib.Nat.{mul-le-mul_left, le_refl}
 use native.Mathlib.Omega.{arith}
@@ -11,7 +11,6 @@ use lib.ListN.{length}
 use Rattle.terms.specs.Run.{no_run}
 use Rattle.terms.specs.Refusal.{value_of}
 use Rattle.terms.specs.declared.refusal.Refusal.{Refusal}
-use Rattle.terms.specs.declared.refusal.Answer.TheVariants.{Refused}
 use Rattle.meaning.specs.Cells.{Cell, Lists, Weight, list, holds, sum}
 use Rattle.meaning.specs.Turning.{Ending, settled, dense}
 use Rattle.meaning.specs.Day.{Day, run_of, place_of, lowest}
@@ -97,7 +96,7 @@ module _ (n D d : ℕ) (half : 2 * d ≤ D) (s : Day) (ok : Right n D s) where
         go true = fewer_paid D d C s (cut s u v) (cut_fewer s u v)
         go false = fewer_paid D d C s (cut s v u) (cut_fewer s v u)
 
-    act_paid : (c : Call) → first_refusal (tests s c) ≡ none → Pays D d C s (taken c (act D s c).answer) (reversed c (act D s c).answer) (act D s c).after
+    act_paid : (c : Call) → first_refusal (tests s c) ≡ None → Pays D d C s (taken c (act D s c).answer) (reversed c (act D s c).answer) (act D s c).after
     act_paid (open_run p) e = fewer_paid D d C s (rename s (lowest s) p) (λ F. omega (arith, rename_weigh s (lowest s) p (open_untouched n D s ok p e) F))
     act_paid (close_run p) e =
         fewer_paid D d C s (rename s (place_of s p) no_run) (λ F. omega (arith, rename_weigh s (place_of s p) no_run (close_untouched n D s ok p e) F))
@@ -108,7 +107,7 @@ module _ (n D d : ℕ) (half : 2 * d ≤ D) (s : Day) (ok : Right n D s) where
     act_paid (ask p q) e = same_paid
     act_paid (reading ps) e = same_paid
 
-    refused_paid : (c : Call) (why : Refusal) → Pays D d C s (taken c (Refused why)) (reversed c (Refused why)) s
+    refused_paid : (c : Call) (why : Refusal) → Pays D d C s (taken c (Err why)) (reversed c (Err why)) s
     refused_paid (open_run p) why = same_paid
     refused_paid (close_run p) why = same_paid
     refused_paid (link p q) why = same_paid

@@ -2,9 +2,9 @@
 -- reversals are more than the accepted links times 3, and more than the accepted links and the changes together times 2. So the
 -- changes cannot be left out, and D + 1 cannot be D. By computation; assumes nothing.
 use Prim.Native.Nat.{ℕ, zero, suc, ◌+◌, ◌*◌, ◌≤◌}
-use mathlib.Core.Bool.{Bool, true, false, ◌||◌, ◌&&◌}
+use mathlib.Core.Bool.{Bool, true, false, ◌||◌, ◌&&◌, or-false}
 use mathlib.Core.List.{List, [], ◌∷◌, ◌++◌, map}
-use mathlib.Core.Path.{◌≡◌, refl, sym, ◌∙◌}
+use mathlib.Core.Path.{◌≡◌, refl, sym, ap, ◌∙◌}
 use native.Mathlib.Omega.{arith}
 use lib.Dec.{eqb}
 use lib.ListN.{get_or}
@@ -27,10 +27,6 @@ use Rattle.demands.proofs.Histories.{asked_le}
 abbrev toward : (Run → Run) → Directions
 toward next x y = yes1 (same_run (next x) y)
 
-either_no : (b : Bool) → yes1 (b || false) ≡ yes1 b
-either_no true = refl
-either_no false = refl
-
 link_few : (next : Run → Run) (p x y : Run) → (x ≡ y → ⊥) → outward (toward next) p x y ≤ yes1 (same_pair p (next p) x y)
 unfolding outward same_pair
 link_few next p x y n = go (same_run p x) refl (same_run p y) refl
@@ -38,7 +34,7 @@ link_few next p x y n = go (same_run p x) refl (same_run p y) refl
     go : (s : Bool) → same_run p x ≡ s → (t : Bool) → same_run p y ≡ t
         → yes1 s * toward next x y + yes1 t * toward next y x ≤ yes1 ((s && same_run (next p) y) || (t && same_run (next p) x))
     go true f true g = absurd (n (sym (run-eq p x f) ∙ run-eq p y g))
-    go true f false g = rw (run-eq p x f) (omega (arith, either_no (same_run (next x) y)))
+    go true f false g = rw (run-eq p x f) (omega (arith, ap yes1 (or-false (same_run (next x) y))))
     go false f true g = rw (run-eq p y g) (omega arith)
     go false f false g = omega arith
 

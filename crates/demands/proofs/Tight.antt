@@ -2,19 +2,19 @@
 -- table, a stream's in both totals too. And asking about two runs says the same whichever is named first. Assumes nothing: the
 -- promises alone.
 use Prim.Native.Nat.{ℕ, ◌*◌, ◌/◌}
-use mathlib.Core.Bool.{Bool, true, false, not, ◌||◌}
+use mathlib.Core.Bool.{not, or_comm}
 use mathlib.Core.List.{List}
 use mathlib.Core.Logic.Dec
 use mathlib.Core.Logic.{inl, inr}
-use mathlib.Core.Option.{Option, none, some}
-use mathlib.Core.Path.{◌≡◌, refl, sym, ap, ◌∙◌}
+use Rattle.std.specs.Prelude.{Option, None, Some}
+use mathlib.Core.Path.{◌≡◌, sym, ap, ◌∙◌}
 use native.Mathlib.Decide.{ℕ_discrete, dec_le, map_dec}
 use native.Mathlib.Omega.{arith}
 use lib.ListN.{length}
 use Rattle.terms.specs.Run.{bad_name, same_run}
 use Rattle.terms.specs.Size.{InRoom, store_words, waiting_words, stream_most, total_most}
 use Rattle.terms.specs.declared.run.Run.{Run}
-use Rattle.terms.specs.declared.refusal.Answer.{Answer}
+use Rattle.terms.specs.Refusal.{Answer}
 use Rattle.record.specs.Bytes.{record_bytes}
 use Rattle.meaning.specs.Cells.{list, holds}
 use Rattle.meaning.specs.Soundness.{Sized}
@@ -108,8 +108,8 @@ pub record Same (r r' : Result) (t t' : Tables) : Type 0 where
   pub reversals : t.reversals ≡ t'.reversals
 
 spare_once : (n C D : ℕ) (o : Option Day) (spare x y : List ℕ) → SpareIs n C D o spare x → SpareIs n C D o spare y → x ≡ y
-spare_once n C D none spare x y a b = a ∙ sym b
-spare_once n C D (some s) spare x y a b = held_once n C D s x y a b
+spare_once n C D None spare x y a b = a ∙ sym b
+spare_once n C D (Some s) spare x y a b = held_once n C D s x y a b
 
 same : (r r' : Result) (t t' : Tables) → r ≡ r' → t ≡ t' → Same r r' t t'
 same r r' t t' e f =
@@ -148,12 +148,6 @@ module _ (n C D : ℕ) (bytes : List ℕ) (t : Tables) (r r' : Result) (x y : Ta
   ]
 
 -- ---- asking about p and q and about q and p is the same
-or_comm : (a b : Bool) → a || b ≡ b || a
-or_comm true true = refl
-or_comm true false = refl
-or_comm false true = refl
-or_comm false false = refl
-
 run_comm : (p q : Run) → same_run p q ≡ same_run q p
 run_comm p q = elim (run_or p q) [
   | inl e ↦ run_same p q e ∙ sym (run_same q p (sym e))

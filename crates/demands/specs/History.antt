@@ -1,9 +1,8 @@
 -- Calls one after another, the links that stand, and choices of directions for them: what demands 2 and 3 speak of.
 use Rattle.std.specs.Prelude.{ℕ, ◌+◌, ◌-◌, ◌*◌, ◌≤◌, min, Bool, false, not, ◌||◌, ◌&&◌, List, [], ◌∷◌, map, ◌≡◌}
 use Rattle.terms.specs.Run.{same_run}
-use Rattle.terms.specs.Refusal.{value_of}
+use Rattle.terms.specs.Refusal.{value_of, Answer}
 use Rattle.terms.specs.declared.run.Run.{Run}
-use Rattle.terms.specs.declared.refusal.Answer.{Answer}
 use Rattle.meaning.specs.Cells.{sum, same}
 use Rattle.meaning.specs.Day.{Day, run_of}
 pub use Rattle.meaning.specs.Stream.{accepts, taken, reversed}

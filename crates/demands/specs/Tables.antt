@@ -1,12 +1,10 @@
 -- From tables to days: the store's words from call to call, as the contracts of the public calls and of the stream have them on a
 -- sound store. Who empties a store once, lets nobody else write to it and keeps n, C and D has such words.
-use Rattle.std.specs.Prelude.{ℕ, ◌+◌, ◌-◌, ◌*◌, ◌/◌, ◌≤◌, ◌<◌, false, List, [], ◌∷◌, ◌++◌, map, ◌≡◌}
-use Rattle.terms.specs.Refusal.{value_of}
+use Rattle.std.specs.Prelude.{ℕ, ◌+◌, ◌-◌, ◌*◌, ◌/◌, ◌≤◌, ◌<◌, false, List, [], ◌∷◌, ◌++◌, map, ◌≡◌, Err}
+use Rattle.terms.specs.Refusal.{value_of, Answer}
 use Rattle.terms.specs.Size.{InRoom, InLimit}
 use Rattle.terms.specs.declared.run.Run.{Run}
 use Rattle.terms.specs.declared.refusal.Refusal.TheVariants.{TooDense}
-use Rattle.terms.specs.declared.refusal.Answer.{Answer}
-use Rattle.terms.specs.declared.refusal.Answer.TheVariants.{Refused}
 use Rattle.meaning.specs.Table.{length_of}
 use Rattle.meaning.specs.Day.{empty_day, empty_table}
 use Rattle.meaning.specs.Calls.{Call, link, ask, yes1}
@@ -86,4 +84,4 @@ TablesBound = (n C D d : ℕ) → 2 * d ≤ D → (xs : List Doing) (w : List �
 
 abbrev pub TablesDense : Type 0
 TablesDense = (n C D : ℕ) (xs : List Doing) (w : List ℕ) → Emptied n C D xs w → (p q : Run) (X : Directions)
-    → DirectedWith p q (D / 2) X (after D (empty_day n C) (all_calls xs)) → (w' : List ℕ) → Carries n C D (link p q) w (Refused TooDense) w' → ⊥
+    → DirectedWith p q (D / 2) X (after D (empty_day n C) (all_calls xs)) → (w' : List ℕ) → Carries n C D (link p q) w (Err TooDense) w' → ⊥

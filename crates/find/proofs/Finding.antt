@@ -2,16 +2,16 @@
 use Prim.Native.Nat.{ℕ, ◌+◌, ◌≤◌, ◌-◌, ◌<◌}
 use mathlib.Core.Bool.{Bool, true, false}
 use mathlib.Core.List.{List}
-use mathlib.Core.Path.{◌≡◌, sym, ap, subst, ◌∙◌}
+use mathlib.Core.Logic.{◌⊎◌, inr}
+use mathlib.Core.Path.{◌≡◌, refl, sym, ap, subst, ◌∙◌}
 use native.Mathlib.Numerals.{add-one}
 use native.Mathlib.Omega.{arith}
 use lib.Dec.{eqb}
 use lib.ListN.{length}
 use borrow.Author.Count.{below_more}
 use borrow.Author.Tests.{eq-eqb, ne_eqb, lt-ltb, le-ltb}
-use Rattle.terms.specs.Run.{same_run}
 use Rattle.terms.specs.declared.run.Run.{Run}
-use Rattle.meaning.specs.Cells.{Cell, links}
+use Rattle.meaning.specs.Cells.{Cell, first, links}
 use Rattle.meaning.specs.Table.{head_at, next_at, head_of, length_of, target_of, next_of}
 use Rattle.meaning.specs.Day.{Day, cells_of, day_of, place_of, is_open, lowest}
 use Rattle.meaning.proofs.Counts.{links_count}
@@ -19,16 +19,11 @@ use Rattle.meaning.proofs.Lists.{each_length, first_each, none_each}
 use Rattle.meaning.proofs.Steps.{nth, cell_at, hook_at}
 use Rattle.meaning.proofs.Walks.{standing, walk_cells}
 use Rattle.meaning.proofs.Threaded.{Threaded, cell_walk, cell_next, cell_inside, length_most}
-use Rattle.table.specs.Within.{Within, AtCell, named}
-use Rattle.find.specs.Find.{Spotted, Absent, Seeks, Links, Found, Barred, Finds}
+use Rattle.table.specs.Within.{Within, named}
+use Rattle.find.specs.Find.{Placed, Spotted, Absent, Seeks, Links, Found, Barred, Finds}
+use Rattle.std.specs.Prelude.{Option, Some, None, Result, Ok, Err, MatchOption}
 use Rattle.find.specs.declared.Spot.{Spot}
-use Rattle.find.specs.declared.Seen.{Seen}
-use Rattle.find.specs.declared.Seen.TheVariants.{At, Nowhere}
-use Rattle.find.specs.declared.Linked.{Linked}
-use Rattle.find.specs.declared.Linked.TheVariants.{InFirst, InSecond, Neither}
 use Rattle.find.specs.declared.Ends.{Ends}
-use Rattle.find.specs.declared.Named.{Named}
-use Rattle.find.specs.declared.Named.TheVariants.{Both, Refused}
 use Rattle.terms.specs.declared.refusal.Refusal.{Refusal}
 
 -- a threaded table is one whose words may be read
@@ -36,42 +31,14 @@ pub threaded_within : (n C : ℕ) (w : List ℕ) → Threaded n C w → Within n
 threaded_within n C w T = record { room = T.room; long = T.long }
 
 module _ (n C : ℕ) (w : List ℕ) where
-  -- no place below v has the run's name
-  pub record Unnamed (p : Run) (v : ℕ) : Type 0 where
-    pub most : v ≤ n
-    pub none : (k : ℕ) → k < v → same_run p (named n C w k) ≡ false
-
-  pub unnamed_start : (p : Run) → Unnamed p 0
-  unnamed_start p = record { most = omega arith; none = λ k h. absurd (omega arith) }
-
-  pub unnamed_more : (p : Run) (v : ℕ) → Unnamed p v → v < n → same_run p (named n C w v) ≡ false → Unnamed p (v + 1)
-  unnamed_more p v i h e = record { most = omega arith; none = below_more (λ k. same_run p (named n C w k) ≡ false) v i.none e }
-
-  pub named_here : (p : Run) (v : ℕ) → Unnamed p v → v < n → same_run p (named n C w v) ≡ true → v ≡ place_of (day_of n C w) p
-  named_here p v i h e = sym (first_each (same_run p) n (λ k. named n C w k) v h e i.none)
-
-  pub named_nowhere : (p : Run) (v : ℕ) → Unnamed p v → n ≤ v → n ≡ place_of (day_of n C w) p
-  named_nowhere p v i h = sym (none_each (same_run p) n (λ k. named n C w k) (λ k q. i.none k (omega arith)))
-
-  -- no place below v is free
-  abbrev is_free : Run → Bool
-  is_free r = eqb r.line 0
-
-  pub record Taken (v : ℕ) : Type 0 where
-    pub most : v ≤ n
-    pub none : (k : ℕ) → k < v → is_free (named n C w k) ≡ false
-
-  pub taken_start : Taken 0
-  taken_start = record { most = omega arith; none = λ k h. absurd (omega arith) }
-
-  pub taken_more : (v x : ℕ) → Taken v → v < n → x ≡ (named n C w v).line → (x ≡ 0 → ⊥) → Taken (v + 1)
-  taken_more v x i h e d = record { most = omega arith; none = below_more (λ k. is_free (named n C w k) ≡ false) v i.none (ne_eqb _ _ (λ q. d (e ∙ q))) }
-
-  pub free_here : (v x : ℕ) → Taken v → v < n → x ≡ (named n C w v).line → x ≡ 0 → v ≡ lowest (day_of n C w)
-  free_here v x i h e z = sym (first_each is_free n (λ k. named n C w k) v h (eq-eqb _ _ (sym e ∙ z)) i.none)
-
-  pub free_nowhere : (v : ℕ) → Taken v → n ≤ v → n ≡ lowest (day_of n C w)
-  free_nowhere v i h = sym (none_each is_free n (λ k. named n C w k) (λ k q. i.none k (omega arith)))
+  -- the first place whose run passes a test, by a search over all places
+  pub first_place : (p : Run → Bool) (Yes No : ℕ → Type 0) → ((k : ℕ) → Yes k → p (named n C w k) ≡ true) → ((k : ℕ) → No k → p (named n C w k) ≡ false)
+      → (r : Option ℕ)
+      → MatchOption r ((k : ℕ) → 0 ≤ k → k < n → No k) (λ i. (0 ≤ i) × (i < n) × Yes i × ((k : ℕ) → 0 ≤ k → k < i → No k))
+      → Placed r n (first p (day_of n C w).runs)
+  first_place p Yes No passes fails (Some v) h =
+      (sym (first_each p n (λ k. named n C w k) v h.1 (passes v h.2) (λ k q. fails k (h.3 k (omega arith) q))), h.1)
+  first_place p Yes No passes fails None h = none_each p n (λ k. named n C w k) (λ k q. fails k (h k (omega arith) q))
 
   -- the search stands at the cell at a position of v's list, and no cell before it aims at t
   pub record Seeking (v t many cell hook position : ℕ) : Type 0 where
@@ -86,11 +53,8 @@ module _ (n C : ℕ) (w : List ℕ) where
     unfolding hook_at nth
     seeking_start many cell hook e f g = record { count = e; most = omega arith; here = f; names = g; none = λ k h. absurd (omega arith) }
 
-    pub seeking_cell : (many cell hook position : ℕ) → Seeking v t many cell hook position → position < many → AtCell n C w cell
-    seeking_cell many cell hook position i h = record {
-      within = threaded_within n C w T;
-      cell = rw i.here (cell_inside n C w T v hv position (omega (arith, i.count)));
-    }
+    pub seeking_cell : (many cell hook position : ℕ) → Seeking v t many cell hook position → position < many → cell < C
+    seeking_cell many cell hook position i h = rw i.here (cell_inside n C w T v hv position (omega (arith, i.count)))
 
     pub seeking_more : (many cell hook position aim hook' next : ℕ) → Seeking v t many cell hook position → position < many
         → aim ≡ target_of n C w cell → (aim ≡ t → ⊥) → hook' ≡ next_at n C cell → next ≡ next_of n C w cell
@@ -111,9 +75,10 @@ module _ (n C : ℕ) (w : List ℕ) where
     aims c = eqb c.target t
 
     pub seek_here : (many cell hook position aim : ℕ) → Seeking v t many cell hook position → position < many
-        → aim ≡ target_of n C w cell → aim ≡ t → Spotted (record { cell = cell; position = position; hook = hook }) n C w v t
+        → aim ≡ target_of n C w cell → aim ≡ t → Spotted (record { list = v; cell = cell; position = position; hook = hook }) n C w v t
     unfolding aims
     seek_here many cell hook position aim i h a e = record {
+      list = refl;
       first = rw list_of (sym (first_each aims (length_of n C w v) (λ k. standing n C w (cell_at n C w v k)) position (omega (arith, i.count))
           (eq-eqb _ _ (sym (a ∙ ap (target_of n C w) i.here) ∙ e)) (λ k q. ne_eqb _ _ (i.none k q))));
       spot = record { within = omega (arith, i.count); cell = i.here; hook = i.names };
@@ -126,34 +91,38 @@ module _ (n C : ℕ) (w : List ℕ) where
 
 -- what an answer that is known by its case says
 module _ (n C : ℕ) (w : List ℕ) (u v : ℕ) where
-  pub seen_at : (r : Seen) (s : Spot) → Seeks r n C w u v → r ≡ At s → Spotted s n C w u v
-  seen_at r s h e = subst (λ (x : Seen). Seeks x n C w u v) e h
+  pub link_some : (r : Option Spot) (s : Spot) → Links r n C w u v → r ≡ Some s → Spotted s n C w u v ⊎ (Absent n C w u v × Spotted s n C w v u)
+  link_some r s h e = subst (λ (x : Option Spot). Links x n C w u v) e h
 
-  pub seen_nowhere : (r : Seen) → Seeks r n C w u v → r ≡ Nowhere → Absent n C w u v
-  seen_nowhere r h e = subst (λ (x : Seen). Seeks x n C w u v) e h
-
-  pub link_first : (r : Linked) (s : Spot) → Links r n C w u v → r ≡ InFirst s → Spotted s n C w u v
-  link_first r s h e = subst (λ (x : Linked). Links x n C w u v) e h
-
-  pub link_second : (r : Linked) (s : Spot) → Links r n C w u v → r ≡ InSecond s → Absent n C w u v × Spotted s n C w v u
-  link_second r s h e = subst (λ (x : Linked). Links x n C w u v) e h
-
-  pub link_neither : (r : Linked) → Links r n C w u v → r ≡ Neither → Absent n C w u v × Absent n C w v u
-  link_neither r h e = subst (λ (x : Linked). Links x n C w u v) e h
+  pub link_neither : (r : Option Spot) → Links r n C w u v → r ≡ None → Absent n C w u v × Absent n C w v u
+  link_neither r h e = subst (λ (x : Option Spot). Links x n C w u v) e h
 
 module _ (n C : ℕ) (w : List ℕ) (p q : Run) where
-  pub named_both : (r : Named) (e : Ends) → Finds r n C w p q → r ≡ Both e → Found n C w p q e
-  named_both r e h f = subst (λ (x : Named). Finds x n C w p q) f h
+  pub named_both : (r : Result Ends Refusal) (e : Ends) → Finds r n C w p q → r ≡ Ok e → Found n C w p q e
+  named_both r e h f = subst (λ (x : Result Ends Refusal). Finds x n C w p q) f h
 
-  pub named_barred : (r : Named) (why : Refusal) → Finds r n C w p q → r ≡ Refused why → Barred n C w p q why
-  named_barred r why h f = subst (λ (x : Named). Finds x n C w p q) f h
+  pub named_barred : (r : Result Ends Refusal) (why : Refusal) → Finds r n C w p q → r ≡ Err why → Barred n C w p q why
+  named_barred r why h f = subst (λ (x : Result Ends Refusal). Finds x n C w p q) f h
+
+-- what a place that is known by its case says
+module _ (n k : ℕ) where
+  pub placed_at : (r : Option ℕ) (v : ℕ) → Placed r n k → r ≡ Some v → (v ≡ k) × (v < n)
+  placed_at r v h e = subst (λ (x : Option ℕ). Placed x n k) e h
+
+  pub placed_not : (r : Option ℕ) → Placed r n k → r ≡ None → k ≡ n
+  placed_not r h e = subst (λ (x : Option ℕ). Placed x n k) e h
 
 -- a place was found: the run is open
-pub found_open : (n C : ℕ) (w : List ℕ) (p : Run) (v : ℕ) → v ≡ place_of (day_of n C w) p → v < n → is_open (day_of n C w) p ≡ true
-found_open n C w p v e h = lt-ltb (place_of (day_of n C w) p) (length (day_of n C w).runs) (rw (← e, each_length) h)
+module _ (n C : ℕ) (w : List ℕ) (p : Run) (r : Option ℕ) where
+  pub found_open : (v : ℕ) → Placed r n (place_of (day_of n C w) p) → r ≡ Some v → is_open (day_of n C w) p ≡ true
+  found_open v h e =
+      let a = placed_at n (place_of (day_of n C w) p) r v h e in
+      lt-ltb (place_of (day_of n C w) p) (length (day_of n C w).runs) (rw (← a.0, each_length) a.1)
 
-pub found_shut : (n C : ℕ) (w : List ℕ) (p : Run) (v : ℕ) → v ≡ place_of (day_of n C w) p → n ≤ v → is_open (day_of n C w) p ≡ false
-found_shut n C w p v e h = le-ltb (place_of (day_of n C w) p) (length (day_of n C w).runs) (rw (← e, each_length) h)
+  pub found_shut : Placed r n (place_of (day_of n C w) p) → r ≡ None → is_open (day_of n C w) p ≡ false
+  found_shut h e =
+      let a = placed_not n (place_of (day_of n C w) p) r h e in
+      le-ltb (place_of (day_of n C w) p) (length (day_of n C w).runs) (rw each_length (omega (arith, a)))
 
 -- the cells that are not free are the links
 module _ (n C : ℕ) (w : List ℕ) (T : Threaded n C w) (free : ℕ) (e : free ≡ length_of n C w n) where

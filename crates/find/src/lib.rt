@@ -4,115 +4,80 @@
 
 pub mod touch;
 
-ghost use Rattle.std.specs.Prelude.{◌≤◌, ◌<◌, ◌≡◌};
+ghost use Rattle.std.specs.Prelude.{◌<◌, ◌≡◌};
 ghost use Rattle.meaning.specs.Cells.{links};
 ghost use Rattle.meaning.specs.Day.{day_of, place_of, lowest};
 ghost use Rattle.meaning.proofs.Threaded.{Threaded};
-ghost use Rattle.find.specs.Find.{Seeks, Links, Finds};
-ghost use Rattle.table.specs.Within.{Within};
+ghost use Rattle.find.specs.Find.{Placed, Seeks, Links, Finds};
 
 use table::section;
+use table::view::Table;
 use terms::refusal::Refusal;
 use terms::run::Run;
 
-// The place that has the run's line and trip number, n where none has.
-pub fn place(store: &[u32], n: usize, c: usize, run: Run) -> usize
-    requires { Within n c store.now }
-    ensures { (result ≡ place_of (day_of n c store.now) run) × (result ≤ n) }
+// The place that has the run's line and trip number.
+pub fn place(table: Table, run: Run) -> Option<usize>
+    ensures { let t = table.entry in Placed result t.room.n (place_of (day_of t.room.n t.room.c t.words.now) run) }
 {
-    let mut v: usize = 0;
-    while v < n {
-        if run.is(section::run(store, n, c, v)) {
-            return v;
-        }
-        v += 1;
-    }
-    n
+    (0..table.room.n).find(|v| table.run(*v) == run)
 }
 
-// The lowest place with line 0, n where none is free.
-pub fn free_place(store: &[u32], n: usize, c: usize) -> usize
-    requires { Within n c store.now }
-    ensures { (result ≡ lowest (day_of n c store.now)) × (result ≤ n) }
+// The lowest place with line 0.
+pub fn free_place(table: Table) -> Option<usize>
+    ensures { let t = table.entry in Placed result t.room.n (lowest (day_of t.room.n t.room.c t.words.now)) }
 {
-    let mut lowest: usize = 0;
-    while lowest < n {
-        let line = section::line(store, n, c, lowest);
-        if line == 0 {
-            return lowest;
-        }
-        lowest += 1;
-    }
-    n
+    (0..table.room.n).find(|v| table.line(*v) == 0)
 }
 
 // The number of links that stand: every cell that is not free.
-pub fn standing(store: &[u32], n: usize, c: usize) -> usize
-    requires { Threaded n c store.now }
-    ensures { result ≡ links (day_of n c store.now).lists }
+pub fn standing(table: Table) -> usize
+    requires { Threaded table.room.n table.room.c table.words.now }
+    ensures { let t = table.entry in result ≡ links (day_of t.room.n t.room.c t.words.now).lists }
 {
-    c - section::count(store, n, c, n)
+    table.room.c - table.count(table.room.n)
 }
 
-// A link's cell, its position in the list counted from 0, and the position in the table of the word that names the cell.
+// Where a link stands: the place in whose list, its cell, its position in the list counted from 0, and the position in the table
+// of the word that names the cell.
 #[derive(Clone, Copy)]
 pub struct Spot {
+    pub list: usize,
     pub cell: usize,
     pub position: usize,
     pub hook: usize,
 }
 
-#[derive(Clone, Copy)]
-pub enum Seen {
-    At(Spot),
-    Nowhere,
-}
-
-// Where the list of v has a link to t.
-pub fn seek(store: &[u32], n: usize, c: usize, v: usize, t: usize) -> Seen
-    requires { Threaded n c store.now × (v < n) }
-    ensures { Seeks result n c store.now v t }
+// Where the list of v has a link to u.
+pub fn seek(table: Table, v: usize, u: usize) -> Option<Spot>
+    requires { Threaded table.room.n table.room.c table.words.now × (v < table.room.n) }
+    ensures { let t = table.entry in Seeks result t.room.n t.room.c t.words.now v u }
 {
-    let many = section::count(store, n, c, v);
-    let mut cell = section::head(store, n, c, v);
-    let mut hook = section::head_at(n, c, v);
-    let mut position: usize = 0;
-    while position < many {
-        let aim = section::target(store, n, c, cell);
-        if aim == t {
-            return Seen::At(Spot {
+    let mut cell = table.head(v);
+    let mut hook = section::head_at(table.room, v);
+    for position in 0..table.count(v) {
+        if table.target(cell) == u {
+            return Some(Spot {
+                list: v,
                 cell,
                 position,
                 hook,
             });
         }
-        hook = section::next_at(n, c, cell);
-        cell = section::next(store, n, c, cell);
-        position += 1;
+        hook = section::next_at(table.room, cell);
+        cell = table.next(cell);
     }
-    Seen::Nowhere
-}
-
-// Which of two lists has the link.
-#[derive(Clone, Copy)]
-pub enum Linked {
-    InFirst(Spot),
-    InSecond(Spot),
-    Neither,
+    None
 }
 
 // Where the link of the places u and v stands: each is looked for in the other's list.
-pub fn link_of(store: &[u32], n: usize, c: usize, u: usize, v: usize) -> Linked
-    requires { Threaded n c store.now × (u < n) × (v < n) }
-    ensures { Links result n c store.now u v }
+pub fn link_of(table: Table, u: usize, v: usize) -> Option<Spot>
+    requires { Threaded table.room.n table.room.c table.words.now × (u < table.room.n) × (v < table.room.n) }
+    ensures { let t = table.entry in Links result t.room.n t.room.c t.words.now u v }
 {
-    if let Seen::At(spot) = seek(store, n, c, u, v) {
-        return Linked::InFirst(spot);
+    if let Some(spot) = seek(table, u, v) {
+        return Some(spot);
     }
-    if let Seen::At(spot) = seek(store, n, c, v, u) {
-        return Linked::InSecond(spot);
-    }
-    Linked::Neither
+    seek(table, v, u)
 }
 
 // The places of two runs.
@@ -122,33 +87,17 @@ pub struct Ends {
     pub second: usize,
 }
 
-#[derive(Clone, Copy)]
-pub enum Named {
-    Both(Ends),
-    Refused(Refusal),
-}
-
 // The places of two named runs, or why there are none: a bad name, the same run twice, a run that is not open.
-pub fn both(store: &[u32], n: usize, c: usize, p: Run, q: Run) -> Named
-    requires { Within n c store.now }
-    ensures { Finds result n c store.now p q }
+pub fn both(table: Table, p: Run, q: Run) -> Result<Ends, Refusal>
+    ensures { let t = table.entry in Finds result t.room.n t.room.c t.words.now p q }
 {
-    if p.is_bad() {
-        return Named::Refused(Refusal::BadName);
+    if p.is_bad() || q.is_bad() {
+        return Err(Refusal::BadName);
     }
-    if q.is_bad() {
-        return Named::Refused(Refusal::BadName);
+    if p == q {
+        return Err(Refusal::SameRun);
     }
-    if p.is(q) {
-        return Named::Refused(Refusal::SameRun);
-    }
-    let first = place(store, n, c, p);
-    if n <= first {
-        return Named::Refused(Refusal::NotOpen);
-    }
-    let second = place(store, n, c, q);
-    if n <= second {
-        return Named::Refused(Refusal::NotOpen);
-    }
-    Named::Both(Ends { first, second })
+    let first = place(table, p).ok_or(Refusal::NotOpen)?;
+    let second = place(table, q).ok_or(Refusal::NotOpen)?;
+    Ok(Ends { first, second })
 }

@@ -1,3 +1,4 @@
--- What the name test's buckets show, and what decides a verdict.
+-- What the name test's buckets show, what `all` answers, and that sizes and a table have one answer only.
 pub mod Buckets
-pub mod Verdicts
+pub mod Ranges
+pub mod Judgings

@@ -1,2 +1,2 @@
 pub mod Bucket
-pub mod Verdict
+pub mod Judging

@@ -4,102 +4,80 @@
 #![tactic(auto)]
 
 ghost use Rattle.std.specs.Prelude.{ℕ, ◌<◌};
-ghost use Rattle.judge.specs.Verdict.{Listed, Says};
+ghost use Rattle.judge.specs.Judging.{Listed, Sizing, Says};
 ghost use Rattle.meaning.proofs.Judged.{Judged};
-ghost use Rattle.meaning.specs.Soundness.{Sized};
-ghost use Rattle.table.specs.Within.{Within, AtPlace};
 ghost use Rattle.terms.specs.Tells.{Tells};
 
-use table::section;
-use terms::size::{Limit, Limited, Room, Roomed};
+use table::view::Table;
+use terms::refusal::Refusal;
+use terms::size::{Limit, Room, Sizes};
 
 pub mod chain;
 pub mod name;
 pub mod pair;
 
-#[derive(Clone, Copy)]
-pub enum Verdict {
-    Sound,
-    // A size outside its limits, or a table of wrong length.
-    WrongSizes,
-    // Sizes and length are right, and the table is not sound.
-    Unsound,
-}
-
-// Sizes within their limits and a table of their length.
-fn sized(store: &[u32], n: usize, c: usize, d: usize) -> bool
-    ensures { Tells result (Sized n c d store.now) }
+// The sizes, where they are within their limits and the table has their length.
+fn sized(n: usize, c: usize, d: usize, store: &[u32]) -> Option<Sizes>
+    ensures { Sizing result n c d store.now }
 {
-    match Limit::of(d) {
-        Limited::Outside => {
-            return false;
-        }
-        Limited::Within(_) => {}
+    let limit = Limit::of(d)?;
+    let room = Room::of(n, c)?;
+    if store.len() != room.store_words() {
+        return None;
     }
-    match Room::of(n, c) {
-        Roomed::Outside => false,
-        Roomed::Within(room) => store.len() == room.store_words(),
-    }
+    Some(Sizes { room, limit })
 }
 
 // One place: its line, its list and its pairs.
-fn place(store: &[u32], n: usize, c: usize, v: usize) -> bool
-    requires { AtPlace n c store.now v }
-    ensures { Tells result (Listed n c store.now v) }
+fn place(table: Table, v: usize) -> bool
+    requires { v < table.room.n }
+    ensures { let t = table.entry in Tells result (Listed t.room.n t.room.c t.words.now v) }
 {
-    if !name::line(store, n, c, v) {
+    if !name::line(table, v) {
         return false;
     }
-    let start = section::head(store, n, c, v);
-    let many = section::count(store, n, c, v);
-    if !chain::walk(store, n, c, v, many, start) {
+    let start = table.head(v);
+    let many = table.count(v);
+    if !chain::walk(table, v, many, start) {
         return false;
     }
-    pair::alone(store, n, c, v, many, start)
+    pair::alone(table, v, many, start)
 }
 
-fn places(store: &[u32], n: usize, c: usize) -> bool
-    requires { Within n c store.now }
-    ensures { Tells result ((v : ℕ) → v < n → Listed n c store.now v) }
+fn places(table: Table) -> bool
+    ensures { let t = table.entry in Tells result ((v : ℕ) → v < t.room.n → Listed t.room.n t.room.c t.words.now v) }
 {
-    let mut v: usize = 0;
-    while v < n {
-        if !place(store, n, c, v) {
-            return false;
-        }
-        v += 1;
-    }
-    true
+    (0..table.room.n).all(|v| place(table, v))
 }
 
 // The whole test, what costs least first: the lengths, the free list, the names, the places.
-fn sound(store: &[u32], n: usize, c: usize, d: usize) -> bool
-    requires { Within n c store.now }
-    ensures { Tells result (Judged n c store.now d) }
+fn sound(table: Table, limit: Limit) -> bool
+    ensures { let t = table.entry in Tells result (Judged t.room.n t.room.c t.words.now limit.d) }
 {
-    if !chain::lengths(store, n, c, d) {
+    if !chain::lengths(table, limit.d) {
         return false;
     }
-    let start = section::head(store, n, c, n);
-    let many = section::count(store, n, c, n);
-    if !chain::walk(store, n, c, n, many, start) {
+    let free = table.room.n;
+    if !chain::walk(table, free, table.count(free), table.head(free)) {
         return false;
     }
-    if !name::names(store, n, c) {
+    if !name::names(table) {
         return false;
     }
-    places(store, n, c)
+    places(table)
 }
 
-// Any numbers and any table.
-pub fn judge(n: usize, c: usize, d: usize, store: &[u32]) -> Verdict
+// Any numbers and any table: the sizes of a sound store, refusal 1 before refusal 2.
+pub fn judge(n: usize, c: usize, d: usize, store: &[u32]) -> Result<Sizes, Refusal>
     ensures { Says result n c d store.now }
 {
-    if !sized(store, n, c, d) {
-        return Verdict::WrongSizes;
+    let sizes = sized(n, c, d, store).ok_or(Refusal::Sizes)?;
+    let table = Table {
+        words: store,
+        room: sizes.room,
+    };
+    if !sound(table, sizes.limit) {
+        return Err(Refusal::Unsound);
     }
-    if !sound(store, n, c, d) {
-        return Verdict::Unsound;
-    }
-    Verdict::Sound
+    Ok(sizes)
 }

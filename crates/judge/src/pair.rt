@@ -1,60 +1,53 @@
 // Rule 4: no unordered pair stands in two cells. A cell is held against the cells after it in its own list and against its
 // target's list.
+ghost use Rattle.std.specs.Prelude.{◌<◌};
 ghost use Rattle.meaning.proofs.Judged.{CellOk, Walks, Has, Lone, Alone};
-ghost use Rattle.table.specs.Within.{Within, AtPlace};
 ghost use Rattle.terms.specs.Tells.{Tells};
 
-use table::section;
+use table::view::Table;
 
-// One of the k cells from i on has target t.
-fn has(store: &[u32], n: usize, c: usize, t: usize, k: usize, i: usize) -> bool
-    requires { Within n c store.now }
-    ensures { Tells result (Has n c store.now t k i) }
+// One of the k cells from i on has target u.
+#[tactic(auto, using(meaning::proofs::Judged::has_out, meaning::proofs::Judged::has_in, meaning::proofs::Judged::has_end))]
+fn has(table: Table, u: usize, k: usize, i: usize) -> bool
+    ensures { let t = table.entry in Tells result (Has t.room.n t.room.c t.words.now u k i) }
 {
-    let mut left = k;
     let mut at = i;
-    while 0 < left {
-        if c <= at {
+    for _ in 0..k {
+        if table.room.c <= at {
             return false;
         }
-        let aim = section::target(store, n, c, at);
-        if aim == t {
+        if table.target(at) == u {
             return true;
         }
-        at = section::next(store, n, c, at);
-        left -= 1;
+        at = table.next(at);
     }
     false
 }
 
 // The pair of cell i, in v's list with k cells after it, stands in no later cell of that list and not in its target's list.
-fn lone(store: &[u32], n: usize, c: usize, v: usize, k: usize, i: usize) -> bool
-    requires { AtPlace n c store.now v × CellOk n c store.now v i }
-    ensures { Tells result (Lone n c store.now v k i) }
+fn lone(table: Table, v: usize, k: usize, i: usize) -> bool
+    requires { (v < table.room.n) × CellOk table.room.n table.room.c table.words.now v i }
+    ensures { let t = table.entry in Tells result (Lone t.room.n t.room.c t.words.now v k i) }
 {
-    let t = section::target(store, n, c, i);
-    let after = section::next(store, n, c, i);
-    if has(store, n, c, t, k, after) {
+    let u = table.target(i);
+    if has(table, u, k, table.next(i)) {
         return false;
     }
-    let start = section::head(store, n, c, t);
-    let many = section::count(store, n, c, t);
-    !has(store, n, c, v, many, start)
+    !has(table, v, table.count(u), table.head(u))
 }
 
 // So for each of the k cells from i on.
-pub fn alone(store: &[u32], n: usize, c: usize, v: usize, k: usize, i: usize) -> bool
-    requires { AtPlace n c store.now v × Walks n c store.now v k i }
-    ensures { Tells result (Alone n c store.now v k i) }
+#[tactic(auto, using(meaning::proofs::Judged::walks_out, meaning::proofs::Judged::alone_out, meaning::proofs::Judged::alone_in))]
+pub fn alone(table: Table, v: usize, k: usize, i: usize) -> bool
+    requires { (v < table.room.n) × Walks table.room.n table.room.c table.words.now v k i }
+    ensures { let t = table.entry in Tells result (Alone t.room.n t.room.c t.words.now v k i) }
 {
-    let mut left = k;
     let mut at = i;
-    while 0 < left {
-        if !lone(store, n, c, v, left - 1, at) {
+    for left in (0..k).rev() {
+        if !lone(table, v, left, at) {
             return false;
         }
-        at = section::next(store, n, c, at);
-        left -= 1;
+        at = table.next(at);
     }
     true
 }

@@ -23,11 +23,9 @@ use Rattle.meaning.proofs.Sums.{Has, sum-mem, outside_even}
 use Rattle.meaning.proofs.Threaded.{Threaded, cell_inside, list_length}
 use Rattle.meaning.proofs.Waiting.{Waits, hand_waits, hand_room}
 use Rattle.meaning.proofs.Words.{written_length, word_same, word_other}
-use Rattle.table.specs.Within.{AtCell}
 use Rattle.lists.specs.Cell.{Shifts, Front}
 use Rattle.lists.specs.Turning.{stack_of, lists_of, Linked, Walking, Beside, Handed}
 use Rattle.find.specs.declared.Spot.{Spot}
-use Rattle.find.proofs.Finding.{threaded_within}
 use Rattle.lists.proofs.Shifting.{front_spot}
 
 -- ---- the waiting table as a list
@@ -103,28 +101,31 @@ module _ (n C D w : ℕ) (s ws : List ℕ) (top : ℕ) (q : Walking n C D w s ws
     unfolding nth
     cell_is = f.cell
 
-    pub hand_cell : AtCell n C s k.cell
-    hand_cell = record { within = threaded_within n C s T; cell = rw cell_is first_in }
+    pub hand_cell : k.cell < C
+    hand_cell = rw cell_is first_in
 
     module _ (x : ℕ) (ex : x ≡ target_of n C s k.cell) where
       x_is : x ≡ c.target
       unfolding c
       x_is = ex ∙ ap (target_of n C s) cell_is
 
-      pub hand_shift : Shifts n C s w k x w
+      pub hand_shift : Shifts n C s k x w
       hand_shift = record {
         threaded = T;
-        from = omega (arith, q.place);
+        from = rw f.list (omega (arith, q.place));
         to = rw x_is (omega (arith, x_in));
-        other = λ e. x_other (e ∙ x_is);
+        other = λ e. x_other (sym f.list ∙ (e ∙ x_is));
         spot = front_spot k n C s w f some;
         word = omega (arith, q.place, T.room.places_at_most);
       }
 
       -- the table with the cell gone over
-      module _ (s' : List ℕ) (es : s' ≡ moved n C s w k.position x w) where
+      module _ (s' : List ℕ) (es : s' ≡ moved n C s k.list k.position x w) where
         s_is : s' ≡ moved n C s w 0 c.target w
-        s_is = rw (← f.position, ← x_is) es
+        s_is =
+            es
+            ∙ (ap (λ (u : ℕ). moved n C s u k.position x w) f.list
+            ∙ (ap (λ (p : ℕ). moved n C s w p x w) f.position ∙ ap (λ (y : ℕ). moved n C s w 0 y w) x_is))
 
         M : Moves n C s w 0 c.target w s'
         unfolding L c l

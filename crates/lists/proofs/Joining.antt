@@ -7,7 +7,8 @@ use native.Mathlib.Omega.{arith}
 use native.Mathlib.Numerals.{add-one}
 use lib.ListN.{length, replicate}
 use borrow.Author.Tests.{eq-eqb, ne_eqb}
-use Rattle.terms.specs.declared.refusal.Answer.TheVariants.{Done, Refused}
+use Rattle.std.specs.Prelude.{Result, Ok, Err}
+use Rattle.terms.specs.declared.refusal.Refusal.{Refusal}
 use Rattle.terms.specs.declared.refusal.Refusal.TheVariants.{NoRoom, TooDense}
 use Rattle.meaning.specs.Cells.{Cell, Lists, list, push, links}
 use Rattle.meaning.specs.Table.{head_of, length_of}
@@ -29,42 +30,28 @@ use Rattle.lists.specs.Cell.{Shifts, Front}
 use Rattle.lists.specs.Turning.{lists_of, Begins, Ends}
 use Rattle.lists.specs.Join.{Settling, Settles, Joins, joining, Joined}
 use Rattle.find.specs.declared.Spot.{Spot}
-use Rattle.lists.specs.declared.turning.Ended.{Ended}
-use Rattle.lists.specs.declared.turning.Ended.TheVariants.{Settled, TooDense as Dense}
 use Rattle.lists.proofs.Shifting.{front_spot}
 
 -- ---- adding the cell
-pub add_shift : (n C : ℕ) (w : List ℕ) (u v : ℕ) (k : Spot) → Threaded n C w → u < n → v < n → 0 < length_of n C w n → Front k n C w n → Shifts n C w n k u v
-add_shift n C w u v k T hu hv some f = record {
-  threaded = T;
-  from = omega arith;
-  to = omega arith;
-  other = λ e. omega arith;
-  spot = front_spot k n C w n f some;
-  word = omega (arith, T.room.places_at_most);
-}
-
-pub add_words : (n C : ℕ) (w : List ℕ) (u v : ℕ) (k : Spot) (w' : List ℕ) → Front k n C w n → w' ≡ moved n C w n k.position u v → w' ≡ moved n C w n 0 u v
-add_words n C w u v k w' f e = e ∙ ap (λ (p : ℕ). moved n C w n p u v) f.position
-
 -- ---- settling
 module _ (n C D u : ℕ) (s spare waiting : List ℕ) (q : Settling n C D u s spare waiting) (m : ℕ) (m-is : m ≡ links (lists_of n C s)) where
   pub settle_begins : Begins n C D m u s waiting
   settle_begins = record { linked = q.linked; room = q.waiting_long; place = q.place; most = omega (arith, m-is, links_count n C s q.linked.threaded); waits = q.waits }
 
-  module _ (r : Ended) (s' wt wt' : List ℕ) (en : Ends r n C D m u s s') (long : length wt ≡ n) (z : wt' ≡ replicate (length wt) 0) where
+  -- the two ways out: what stands in store and waiting
+  module _ (r : Result ℕ Refusal) (s' wt wt' : List ℕ) (en : Ends r n C D m u s s') (long : length wt ≡ n) (z : wt' ≡ replicate (length wt) 0) where
     zeros : wt' ≡ replicate n 0
     zeros = z ∙ ap (λ (k : ℕ). replicate k 0) long
 
-    pub settle_done : (k : ℕ) → r ≡ Settled k → Settles (Settled k) n C D u s spare s' wt'
+    pub settle_done : (k : ℕ) → r ≡ Ok k → Settles (Ok k) n C D u s spare s' wt'
     settle_done k g =
-        let h : Ends (Settled k) n C D m u s s' = subst (λ (x : Ended). Ends x n C D m u s s') g en in
+        let h : Ends (Ok k) n C D m u s s' = subst (λ (x : Result ℕ Refusal). Ends x n C D m u s s') g en in
         (rw m-is at h.0, h.1, h.2, zeros)
 
-    pub settle_dense : (s'' : List ℕ) → r ≡ Dense → s'' ≡ spare → Settles Dense n C D u s spare s'' wt'
-    settle_dense s'' g h =
-        let a : Ends Dense n C D m u s s' = subst (λ (x : Ended). Ends x n C D m u s s') g en in
-        (rw m-is at a, h, zeros)
+    pub settle_dense : (why : Refusal) (s'' : List ℕ) → r ≡ Err why → s'' ≡ spare → Settles (Err why) n C D u s spare s'' wt'
+    settle_dense why s'' g h =
+        let a : Ends (Err why) n C D m u s s' = subst (λ (x : Result ℕ Refusal). Ends x n C D m u s s') g en in
+        (a.0, rw m-is at a.1, h, zeros)
 
 -- ---- the whole
 module _ (n C D u v : ℕ) (w spare waiting : List ℕ) (q : Joins n C D u v w spare waiting) where
@@ -80,7 +67,7 @@ module _ (n C D u v : ℕ) (w spare waiting : List ℕ) (q : Joins n C D u v w s
   rows : length (lists_of n C w) ≡ n
   rows = each_length n (cells_of n C w)
 
-  none_free : (l : List ℕ) → length l ≡ 0 → (do_link D (day_of n C w) u v l).answer ≡ Refused NoRoom
+  none_free : (l : List ℕ) → length l ≡ 0 → (do_link D (day_of n C w) u v l).answer ≡ Err NoRoom
   none_free [] h = refl
   none_free (i ∷ l) h = absurd (omega arith)
 
@@ -92,7 +79,7 @@ module _ (n C D u v : ℕ) (w spare waiting : List ℕ) (q : Joins n C D u v w s
   none_began [] h = refl
   none_began (i ∷ l) h = absurd (omega arith)
 
-  pub join_full : (free : ℕ) → free ≡ length_of n C w n → free ≡ 0 → Joined n C D u v w spare waiting (Refused NoRoom) w spare waiting
+  pub join_full : (free : ℕ) → free ≡ length_of n C w n → free ≡ 0 → Joined n C D u v w spare waiting (Err NoRoom) w spare waiting
   join_full free e z =
       let h : length (day_of n C w).free ≡ 0 = free_length n C w ∙ (sym e ∙ z) in
       record {
@@ -116,9 +103,6 @@ module _ (n C D u v : ℕ) (w spare waiting : List ℕ) (q : Joins n C D u v w s
     free_is : (day_of n C w).free ≡ i ∷ fs
     unfolding i fs
     free_is = (free_first n C w some').1
-
-    pub join_add : Threaded n C w × (u < n) × (v < n) × (0 < length_of n C w n)
-    join_add = (T, q.first, q.second, some')
 
     c : Cell
     c = record { index = i; target = v }
@@ -149,11 +133,11 @@ module _ (n C D u v : ℕ) (w spare waiting : List ℕ) (q : Joins n C D u v w s
       s_lists = ap (λ (d : Day). d.lists) s_day
 
       -- the list stays within the limit
-      pub join_short : (many : ℕ) → many ≡ length_of n C w u → many < D → Joined n C D u v w spare waiting (Done 0) s spare waiting
+      pub join_short : (many : ℕ) → many ≡ length_of n C w u → many < D → Joined n C D u v w spare waiting (Ok 0) s spare waiting
       unfolding added L c
       join_short many em h =
           let o : over D L u ≡ false = ne_eqb (length (list L u)) (D + 1) (λ e. omega (arith, count_L)) in
-          let j : joining n C D u v w ≡ record { answer = Done 0; after = added; began = false } = joining_is ∙ rw (link_in, o) in
+          let j : joining n C D u v w ≡ record { answer = Ok 0; after = added; began = false } = joining_is ∙ rw (link_in, o) in
           record {
             answer = sym (ap (λ (x : Outcome). x.answer) j);
             threaded = s_threaded;
@@ -187,15 +171,15 @@ module _ (n C D u v : ℕ) (w spare waiting : List ℕ) (q : Joins n C D u v w s
               (subst (λ (b : Bool). Waits D L (put b u [])) is_over (begun_waits D (lists_of n C w) u c (rw rows q.first) (none_waits D (lists_of n C w) R.short)));
         }
 
-        module _ (x : Ended) (s' wt' : List ℕ) (st : Settles x n C D u s copied s' wt') where
+        module _ (x : Result ℕ Refusal) (s' wt' : List ℕ) (st : Settles x n C D u s copied s' wt') where
           turned_L : (e : Ending) → turning D (links (lists_of n C s)) (lists_of n C s) (u ∷ []) 0 ≡ e → turning D (links L) L (u ∷ []) 0 ≡ e
           turned_L e k = subst (λ (ls : Lists). turning D (links ls) ls (u ∷ []) 0 ≡ e) s_lists k
 
-          pub join_settled : (r : ℕ) → x ≡ Settled r → Joined n C D u v w spare waiting (Done r) s' copied wt'
+          pub join_settled : (r : ℕ) → x ≡ Ok r → Joined n C D u v w spare waiting (Ok r) s' copied wt'
           unfolding added
           join_settled r g =
-              let a : Settles (Settled r) n C D u s copied s' wt' = subst (λ (y : Ended). Settles y n C D u s copied s' wt') g st in
-              let j : joining n C D u v w ≡ record { answer = Done r; after = record { runs = (day_of n C w).runs; lists = lists_of n C s'; free = fs }; began = true }
+              let a : Settles (Ok r) n C D u s copied s' wt' = subst (λ (y : Result ℕ Refusal). Settles y n C D u s copied s' wt') g st in
+              let j : joining n C D u v w ≡ record { answer = Ok r; after = record { runs = (day_of n C w).runs; lists = lists_of n C s'; free = fs }; began = true }
               = joining_turns ∙ ap (ended (day_of n C w) fs) (turned_L _ a.0) in
               record {
                 answer = sym (ap (λ (y : Outcome). y.answer) j);
@@ -206,15 +190,15 @@ module _ (n C D u v : ℕ) (w spare waiting : List ℕ) (q : Joins n C D u v w s
                 waited = rw (j, a.3);
               }
 
-          pub join_dense : x ≡ Dense → Joined n C D u v w spare waiting (Refused TooDense) s' copied wt'
-          join_dense g =
-              let a : Settles Dense n C D u s copied s' wt' = subst (λ (y : Ended). Settles y n C D u s copied s' wt') g st in
-              let j : joining n C D u v w ≡ record { answer = Refused TooDense; after = day_of n C w; began = true } = joining_turns ∙ ap (ended (day_of n C w) fs) (turned_L _ a.0) in
-              let e : s' ≡ w = a.1 ∙ ec in
+          pub join_dense : (why : Refusal) → x ≡ Err why → Joined n C D u v w spare waiting (Err why) s' copied wt'
+          join_dense why g =
+              let a : Settles (Err why) n C D u s copied s' wt' = subst (λ (y : Result ℕ Refusal). Settles y n C D u s copied s' wt') g st in
+              let j : joining n C D u v w ≡ record { answer = Err TooDense; after = day_of n C w; began = true } = joining_turns ∙ ap (ended (day_of n C w) fs) (turned_L _ a.1) in
+              let e : s' ≡ w = a.2 ∙ ec in
               record {
-                answer = sym (ap (λ (y : Outcome). y.answer) j);
+                answer = rw a.0 (sym (ap (λ (y : Outcome). y.answer) j));
                 threaded = rw e T;
                 day = ap (day_of n C) e ∙ sym (ap (λ (y : Outcome). y.after) j);
                 spared = rw (j, ec);
-                waited = rw (j, a.2);
+                waited = rw (j, a.3);
               }

@@ -4,6 +4,8 @@ use mathlib.Core.List.{List, [], ◌∷◌, Memᴰ}
 use mathlib.Core.Path.{◌≡◌, refl, sym, ap, subst, ◌∙◌}
 use native.Mathlib.Omega.{arith}
 use lib.ListN.{length}
+use Rattle.std.specs.Prelude.{Ok, Err}
+use Rattle.terms.specs.declared.refusal.Refusal.TheVariants.{TooDense}
 use Rattle.terms.specs.Size.{cells_most}
 use Rattle.meaning.specs.Cells.{Lists, list}
 use Rattle.meaning.specs.Table.{word, written, length_of}
@@ -16,10 +18,7 @@ use Rattle.meaning.proofs.Threaded.{list_length, length_most}
 use Rattle.meaning.proofs.Turnings.{turning_rest}
 use Rattle.meaning.proofs.Waiting.{Waits, bare_waits, turn_waits, waits_place, waits_fit}
 use Rattle.meaning.proofs.Words.{written_length}
-use Rattle.table.specs.Within.{AtList}
 use Rattle.lists.specs.Turning.{stack_of, lists_of, Linked, Walking, Beside, Handed, Begins, Ends}
-use Rattle.lists.specs.declared.turning.Ended.TheVariants.{Settled, TooDense}
-use Rattle.find.proofs.Finding.{threaded_within}
 use Rattle.lists.proofs.Handling.{stack_length, stack_put, stack_take}
 
 -- at the head of the outer loop
@@ -112,8 +111,8 @@ module _ (n C D m a : ℕ) (s₀ s ws : List ℕ) (top turned r : ℕ) (q : Turn
       w_in : w < n
       w_in = rw (ew, ← rows) (waits_place D (lists_of n C s) (word ws (top - 1) ∷ stack_of ws (top - 1)) waits_w (word ws (top - 1)) (Memᴰ.head refl))
 
-      pub turns_list : AtList n C s w
-      turns_list = record { within = threaded_within n C s q.linked.threaded; list = omega (arith, w_in) }
+      pub turns_list : w ≤ n
+      turns_list = omega (arith, w_in)
 
       pub turns_few : length_of n C s w ≤ C
       turns_few = length_most n C s q.linked.threaded w (omega (arith, w_in))
@@ -155,12 +154,12 @@ module _ (n C D m a : ℕ) (s₀ s ws : List ℕ) (top turned r : ℕ) (q : Turn
           beside = beside_then n C s₀ s s' q.beside k.beside;
         }
 
-  pub ends_settled : top ≡ 0 → Ends (Settled r) n C D m a s₀ s
+  pub ends_settled : top ≡ 0 → Ends (Ok r) n C D m a s₀ s
   unfolding stack_of
   ends_settled z =
       let e : stack_of ws top ≡ [] = rw z refl in
       (sym q.same ∙ rw e (turning_rest D (m - turned) (lists_of n C s) r), q.linked.threaded, q.beside)
 
-  pub ends_dense : (top ≡ 0 → ⊥) → turned ≡ m → Ends TooDense n C D m a s₀ s
+  pub ends_dense : (top ≡ 0 → ⊥) → turned ≡ m → Ends (Err TooDense) n C D m a s₀ s
   unfolding turning
-  ends_dense more z = let o : m - turned ≡ 0 = omega arith in sym q.same ∙ rw (o, stack_take ws top more)
+  ends_dense more z = let o : m - turned ≡ 0 = omega arith in (refl, sym q.same ∙ rw (o, stack_take ws top more))

@@ -1,7 +1,9 @@
 -- What linking two places asks and shows.
-use Rattle.std.specs.Prelude.{ℕ, ◌<◌, List, [], ◌∷◌, ◌≡◌, length, replicate}
+use Rattle.std.specs.Prelude.{ℕ, ◌<◌, List, [], ◌∷◌, ◌≡◌, length, replicate, Result, Ok, Err}
 use Rattle.terms.specs.Size.{store_words, waiting_words}
-use Rattle.terms.specs.declared.refusal.Answer.{Answer}
+use Rattle.terms.specs.Refusal.{Answer}
+use Rattle.terms.specs.declared.refusal.Refusal.{Refusal}
+use Rattle.terms.specs.declared.refusal.Refusal.TheVariants.{TooDense}
 use Rattle.meaning.specs.Cells.{links}
 use Rattle.meaning.specs.Soundness.{Sound}
 use Rattle.meaning.specs.Turning.{settled, dense, turning}
@@ -11,8 +13,6 @@ use Rattle.meaning.specs.Promise.{spare_after, waiting_after}
 use Rattle.meaning.proofs.Threaded.{Threaded}
 use Rattle.meaning.proofs.Waiting.{Waits}
 use Rattle.lists.specs.Turning.{lists_of, Linked, Beside}
-use Rattle.lists.specs.declared.turning.Ended.{Ended}
-use Rattle.lists.specs.declared.turning.Ended.TheVariants.{Settled, TooDense}
 
 -- u alone waits
 pub record Settling (n C D u : ℕ) (s spare waiting : List ℕ) : Type 0 where
@@ -23,11 +23,11 @@ pub record Settling (n C D u : ℕ) (s spare waiting : List ℕ) : Type 0 where
   pub waits : Waits D (lists_of n C s) (u ∷ [])
 
 -- m is the number of links
-abbrev pub Settles : Ended → ℕ → ℕ → ℕ → ℕ → List ℕ → List ℕ → List ℕ → List ℕ → Type 0
-Settles (Settled r) n C D u s spare s' waiting' =
+abbrev pub Settles : Result ℕ Refusal → ℕ → ℕ → ℕ → ℕ → List ℕ → List ℕ → List ℕ → List ℕ → Type 0
+Settles (Ok r) n C D u s spare s' waiting' =
     (turning D (links (lists_of n C s)) (lists_of n C s) (u ∷ []) 0 ≡ settled (lists_of n C s') r) × Threaded n C s' × Beside n C s s' × (waiting' ≡ replicate n 0)
-Settles TooDense n C D u s spare s' waiting' =
-    (turning D (links (lists_of n C s)) (lists_of n C s) (u ∷ []) 0 ≡ dense) × (s' ≡ spare) × (waiting' ≡ replicate n 0)
+Settles (Err why) n C D u s spare s' waiting' =
+    (why ≡ TooDense) × (turning D (links (lists_of n C s)) (lists_of n C s) (u ∷ []) 0 ≡ dense) × (s' ≡ spare) × (waiting' ≡ replicate n 0)
 
 -- two places of a sound store
 pub record Joins (n C D u v : ℕ) (w spare waiting : List ℕ) : Type 0 where

@@ -1,7 +1,9 @@
 -- What turning's functions ask and show: between any two cells the table is threaded, its links are between places and apart,
 -- and the waiting table has the places whose lists are too long.
-use Rattle.std.specs.Prelude.{ℕ, zero, suc, ◌-◌, ◌≤◌, ◌<◌, List, [], ◌∷◌, ◌≡◌, length}
+use Rattle.std.specs.Prelude.{ℕ, zero, suc, ◌-◌, ◌≤◌, ◌<◌, List, [], ◌∷◌, ◌≡◌, length, Result, Ok, Err}
 use Rattle.terms.specs.Size.{limit_most}
+use Rattle.terms.specs.declared.refusal.Refusal.{Refusal}
+use Rattle.terms.specs.declared.refusal.Refusal.TheVariants.{TooDense}
 use Rattle.meaning.specs.Cells.{Lists, bare, sum}
 use Rattle.meaning.specs.Table.{word, length_of}
 use Rattle.meaning.specs.Turning.{turn, settled, dense, turning}
@@ -9,8 +11,6 @@ use Rattle.meaning.specs.Day.{day_of}
 use Rattle.meaning.proofs.Right.{outside, loop}
 use Rattle.meaning.proofs.Threaded.{Threaded}
 use Rattle.meaning.proofs.Waiting.{Waits}
-use Rattle.lists.specs.declared.turning.Ended.{Ended}
-use Rattle.lists.specs.declared.turning.Ended.TheVariants.{Settled, TooDense}
 
 -- the places that wait, as the first words of the waiting table have them, the last first
 unfoldable pub stack_of : List ℕ → ℕ → List ℕ
@@ -56,6 +56,6 @@ pub record Begins (n C D m a : ℕ) (s ws : List ℕ) : Type 0 where
   pub waits : Waits D (lists_of n C s) (a ∷ [])
 
 -- how it ended
-abbrev pub Ends : Ended → ℕ → ℕ → ℕ → ℕ → ℕ → List ℕ → List ℕ → Type 0
-Ends (Settled r) n C D m a s s' = (turning D m (lists_of n C s) (a ∷ []) 0 ≡ settled (lists_of n C s') r) × Threaded n C s' × Beside n C s s'
-Ends TooDense n C D m a s s' = turning D m (lists_of n C s) (a ∷ []) 0 ≡ dense
+abbrev pub Ends : Result ℕ Refusal → ℕ → ℕ → ℕ → ℕ → ℕ → List ℕ → List ℕ → Type 0
+Ends (Ok r) n C D m a s s' = (turning D m (lists_of n C s) (a ∷ []) 0 ≡ settled (lists_of n C s') r) × Threaded n C s' × Beside n C s s'
+Ends (Err why) n C D m a s s' = (why ≡ TooDense) × (turning D m (lists_of n C s) (a ∷ []) 0 ≡ dense)

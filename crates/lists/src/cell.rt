@@ -6,35 +6,28 @@ ghost use Rattle.meaning.proofs.Threaded.{Threaded};
 ghost use Rattle.lists.specs.Cell.{Shifts, Front};
 
 use find::Spot;
+use table::view::Table;
 use table::{section, step};
+use terms::size::Room;
 
 // The spot of a list's first cell.
-pub fn front(store: &[u32], n: usize, c: usize, u: usize) -> Spot
-    requires { Threaded n c store.now × (u ≤ n) }
-    ensures { Front result n c store.now u }
+pub fn front(table: Table, u: usize) -> Spot
+    requires { Threaded table.room.n table.room.c table.words.now × (u ≤ table.room.n) }
+    ensures { let t = table.entry in Front result t.room.n t.room.c t.words.now u }
 {
-    let cell = section::head(store, n, c, u);
-    let hook = section::head_at(n, c, u);
     Spot {
-        cell,
+        list: u,
+        cell: table.head(u),
         position: 0,
-        hook,
+        hook: section::head_at(table.room, u),
     }
 }
 
-// The cell at a spot of u's list goes to the front of v's list with target t. The new length of v's list.
-pub fn shift(
-    store: &mut [u32],
-    n: usize,
-    c: usize,
-    u: usize,
-    spot: Spot,
-    v: usize,
-    t: usize,
-) -> usize
-    requires { Shifts n c store.old u spot v t }
-    ensures { (result ≡ length_of n c store.old v + 1) × (store.new ≡ moved n c store.old u spot.position v t) }
+// The cell at a spot goes to the front of v's list with target t. The new length of v's list.
+pub fn shift(store: &mut [u32], room: Room, spot: Spot, v: usize, t: usize) -> usize
+    requires { Shifts room.n room.c store.old spot v t }
+    ensures { (result ≡ length_of room.n room.c store.old v + 1) × (store.new ≡ moved room.n room.c store.old spot.list spot.position v t) }
 {
-    step::unhook(store, n, c, spot.hook, u, spot.cell);
-    step::hook(store, n, c, spot.cell, v, t)
+    step::unhook(store, room, spot.hook, spot.list, spot.cell);
+    step::hook(store, room, spot.cell, v, t)
 }

@@ -6,17 +6,19 @@ ghost use Rattle.meaning.proofs.Threaded.{Threaded};
 ghost use Rattle.lists.specs.Join.{Settling, Settles, Joins, Joined};
 
 use crate::cell;
-use crate::turning::{Ended, turning};
-use table::{section, whole};
+use crate::turning::turning;
+use table::view::Table;
 use terms::refusal::{Answer, Refusal};
+use terms::size::{Room, Sizes};
 
 // The first free cell goes to the front of u's list with target v.
-fn add(store: &mut [u32], n: usize, c: usize, u: usize, v: usize)
-    requires { Threaded n c store.old × (u < n) × (v < n) × (0 < length_of n c store.old n) }
-    ensures { store.new ≡ moved n c store.old n 0 u v }
+fn add(store: &mut [u32], room: Room, u: usize, v: usize)
+    requires { Threaded room.n room.c store.old × (u < room.n) × (v < room.n) × (0 < length_of room.n room.c store.old room.n) }
+    ensures { store.new ≡ moved room.n room.c store.old room.n 0 u v }
 {
-    let spot = cell::front(store, n, c, n);
-    cell::shift(store, n, c, n, spot, u, v);
+    let table = Table { words: store, room };
+    let spot = cell::front(table, room.n);
+    cell::shift(store, room, spot, u, v);
 }
 
 // Turning with u alone waiting; too dense, and the store is put back as the spare has it. The waiting table is left at 0.
@@ -24,24 +26,23 @@ fn settle(
     store: &mut [u32],
     spare: &[u32],
     waiting: &mut [u32],
-    n: usize,
-    c: usize,
-    d: usize,
+    sizes: Sizes,
     u: usize,
-) -> Ended
-    requires { Settling n c d u store.old spare.now waiting.old }
-    ensures { Settles result n c d u store.old spare.now store.new waiting.new }
+) -> Result<usize, Refusal>
+    requires { Settling sizes.room.n sizes.room.c sizes.limit.d u store.old spare.now waiting.old }
+    ensures { Settles result sizes.room.n sizes.room.c sizes.limit.d u store.old spare.now store.new waiting.new }
 {
-    let links = find::standing(store, n, c);
-    let ended = turning(store, waiting, n, c, d, links, u);
-    whole::clear(waiting);
-    match ended {
-        Ended::TooDense => {
-            whole::copy(spare, store);
-            Ended::TooDense
-        }
-        Ended::Settled(reversals) => Ended::Settled(reversals),
+    let table = Table {
+        words: store,
+        room: sizes.room,
+    };
+    let links = find::standing(table);
+    let ended = turning(store, waiting, sizes.room, sizes.limit.d, links, u);
+    waiting.fill(0);
+    if ended.is_err() {
+        store.copy_from_slice(spare);
     }
+    ended
 }
 
 // The link of the open places u and v, which are two and not linked.
@@ -49,26 +50,24 @@ pub fn join(
     store: &mut [u32],
     spare: &mut [u32],
     waiting: &mut [u32],
-    n: usize,
-    c: usize,
-    d: usize,
+    sizes: Sizes,
     u: usize,
     v: usize,
 ) -> Answer
-    requires { Joins n c d u v store.old spare.old waiting.old }
-    ensures { Joined n c d u v store.old spare.old waiting.old result store.new spare.new waiting.new }
+    requires { Joins sizes.room.n sizes.room.c sizes.limit.d u v store.old spare.old waiting.old }
+    ensures { Joined sizes.room.n sizes.room.c sizes.limit.d u v store.old spare.old waiting.old result store.new spare.new waiting.new }
 {
-    if section::count(store, n, c, n) == 0 {
-        return Answer::Refused(Refusal::NoRoom);
+    let room = sizes.room;
+    let table = Table { words: store, room };
+    if table.count(room.n) == 0 {
+        return Err(Refusal::NoRoom);
     }
-    if section::count(store, n, c, u) < d {
-        add(store, n, c, u, v);
-        return Answer::Done(0);
+    if table.count(u) < sizes.limit.d {
+        add(store, room, u, v);
+        return Ok(0);
     }
-    whole::copy(store, spare);
-    add(store, n, c, u, v);
-    match settle(store, spare, waiting, n, c, d, u) {
-        Ended::Settled(reversals) => Answer::Done(reversals as u64),
-        Ended::TooDense => Answer::Refused(Refusal::TooDense),
-    }
+    spare.copy_from_slice(store);
+    add(store, room, u, v);
+    let reversals = settle(store, spare, waiting, sizes, u)?;
+    Ok(reversals as u64)
 }

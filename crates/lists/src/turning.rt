@@ -4,32 +4,21 @@ ghost use Rattle.meaning.specs.Table.{length_of};
 ghost use Rattle.lists.specs.Turning.{Walking, Handed, Begins, Ends};
 
 use crate::cell;
+use table::view::Table;
 use table::{section, step};
-
-// No place waits any more, with the number of reversals; or one still waits after as many lists as there are links.
-#[derive(Clone, Copy)]
-pub enum Ended {
-    Settled(usize),
-    TooDense,
-}
+use terms::refusal::Refusal;
+use terms::size::Room;
 
 // The first cell of the list of w goes to the front of its target's list with target w; the target waits if its length becomes
 // d + 1. The new number of waiting places.
-fn hand(
-    store: &mut [u32],
-    waiting: &mut [u32],
-    n: usize,
-    c: usize,
-    d: usize,
-    w: usize,
-    top: usize,
-) -> usize
-    requires { Walking n c d w store.old waiting.old top × (0 < length_of n c store.old w) }
-    ensures { Handed n c d w store.old waiting.old top store.new waiting.new result }
+fn hand(store: &mut [u32], waiting: &mut [u32], room: Room, d: usize, w: usize, top: usize) -> usize
+    requires { Walking room.n room.c d w store.old waiting.old top × (0 < length_of room.n room.c store.old w) }
+    ensures { Handed room.n room.c d w store.old waiting.old top store.new waiting.new result }
 {
-    let spot = cell::front(store, n, c, w);
-    let x = section::target(store, n, c, spot.cell);
-    let many = cell::shift(store, n, c, w, spot, x, w);
+    let table = Table { words: store, room };
+    let spot = cell::front(table, w);
+    let x = table.target(spot.cell);
+    let many = cell::shift(store, room, spot, x, w);
     if many == d + 1 {
         step::put(waiting, top, x);
         return top + 1;
@@ -37,19 +26,19 @@ fn hand(
     top
 }
 
-// Turning, with the place a alone waiting: at most m lists are turned. The walk over a turned list takes its first cell each time,
-// so the list is empty where it ends.
+// Turning, with the place a alone waiting: at most m lists are turned. It ends settled, with the number of reversals, or too dense,
+// where a place still waits then. The walk over a turned list takes its first cell each time, so the list is empty where it ends.
+// Both loops are left by break, as document 01 has it.
 pub fn turning(
     store: &mut [u32],
     waiting: &mut [u32],
-    n: usize,
-    c: usize,
+    room: Room,
     d: usize,
     m: usize,
     a: usize,
-) -> Ended
-    requires { Begins n c d m a store.old waiting.old }
-    ensures { Ends result n c d m a store.old store.new }
+) -> Result<usize, Refusal>
+    requires { Begins room.n room.c d m a store.old waiting.old }
+    ensures { Ends result room.n room.c d m a store.old store.new }
 {
     step::put(waiting, 0, a);
     let mut top: usize = 1;
@@ -57,20 +46,21 @@ pub fn turning(
     let mut reversals: usize = 0;
     let ended = loop {
         if top == 0 {
-            break Ended::Settled(reversals);
+            break Ok(reversals);
         }
         if turned == m {
-            break Ended::TooDense;
+            break Err(Refusal::TooDense);
         }
         top -= 1;
         let w = section::word(waiting, top);
-        let mut left = section::count(store, n, c, w);
+        let table = Table { words: store, room };
+        let mut left = table.count(w);
         reversals += left;
         'walk: loop {
             if left == 0 {
                 break 'walk;
             }
-            top = hand(store, waiting, n, c, d, w, top);
+            top = hand(store, waiting, room, d, w, top);
             left -= 1;
         }
         turned += 1;

@@ -15,14 +15,11 @@ use Rattle.meaning.specs.Soundness.{Single}
 use Rattle.meaning.specs.Turning.{hand_all, turning}
 use Rattle.meaning.specs.Day.{Day, each, empty_day}
 use Rattle.meaning.specs.Calls.{Call, open_run, link, Outcome, call}
+use Rattle.meaning.proofs.Examples.{after}
 
 -- a run for each place
 abbrev run : ℕ → Run
 run i = record { line = 1; trip = 100 + i }
-
-abbrev after : ℕ → Day → List Call → Day
-after D s [] = s
-after D s (q ∷ qs) = after D (call D s q).after qs
 
 -- the links of a place's list, the front one last, so that the list is as given; and of each place from v on
 abbrev links_of : ℕ → List ℕ → List Call

@@ -22,7 +22,8 @@ use Rattle.meaning.proofs.Times.{times}
 use Rattle.meaning.proofs.Held.{held, along_at, along_all, parted}
 use Rattle.meaning.proofs.Rules.{cell_has, sound_judged}
 use Rattle.meaning.proofs.Sums.{row_le}
-use Rattle.meaning.proofs.Pairs.{toward, rows_none, pair_rows, cell_at, cells_length, cell_part, cells_none, toward_cell, cell_toward, two_toward}
+use Rattle.meaning.proofs.Walks.{standing, cells_length}
+use Rattle.meaning.proofs.Pairs.{toward, rows_none, pair_rows, cell_part, cells_none, toward_cell, cell_toward, two_toward}
 
 module _ (n C : ℕ) (w : List ℕ) where
   -- the rows and the runs of the day
@@ -48,7 +49,7 @@ module _ (n C : ℕ) (w : List ℕ) where
   line_past v p = ap (λ r. r.line) (each_past n run_at no_run v p)
 
   -- a weight that no cell of a place's list has sums to nothing, and the other way round
-  sum_none : (f : Weight) → ((v j : ℕ) → v < n → 0 < times j (held n C w v) → f v (cell_at n C w j) ≡ 0) → sum f (day_of n C w).lists ≡ 0
+  sum_none : (f : Weight) → ((v j : ℕ) → v < n → 0 < times j (held n C w v) → f v (standing n C w j) ≡ 0) → sum f (day_of n C w).lists ≡ 0
   sum_none f h = rows_none f (day_of n C w).lists row
     where
       row : (v : ℕ) → v < length (day_of n C w).lists → row_sum (f v) (list (day_of n C w).lists v) ≡ 0
@@ -56,7 +57,7 @@ module _ (n C : ℕ) (w : List ℕ) where
           let q : v < n = omega (arith, each_length n (cells_of n C w)) in
           rw (row_of v q) (cells_none n C w (f v) (length_of n C w v) (head_of n C w v) (λ j m. h v j q m))
 
-  none_sum : (f : Weight) → sum f (day_of n C w).lists ≡ 0 → (v j : ℕ) → v < n → 0 < times j (held n C w v) → f v (cell_at n C w j) ≡ 0
+  none_sum : (f : Weight) → sum f (day_of n C w).lists ≡ 0 → (v j : ℕ) → v < n → 0 < times j (held n C w v) → f v (standing n C w j) ≡ 0
   none_sum f e v j p q =
       omega (
         arith,
@@ -194,9 +195,9 @@ module _ (n C D : ℕ) (w : List ℕ) (limit : InLimit D) (room : InRoom n C) (l
     (freed : Along n C w (λ i. target_of n C w i ≡ NONE) (length_of n C w n) (head_of n C w n)) (r : Right n D (day_of n C w)) where
   right_aims : (v j : ℕ) → v < n → 0 < times j (held n C w v) → Aims n C w v j
   right_aims v j p q =
-      let a : outside n v (cell_at n C w j) ≡ 0 = none_sum n C w (outside n) r.inside v j p q in
-      let b : loop v (cell_at n C w j) ≡ 0 = none_sum n C w loop r.unlooped v j p q in
-      let c : shut (day_of n C w) v (cell_at n C w j) ≡ 0 = none_sum n C w (shut (day_of n C w)) r.ended v j p q in
+      let a : outside n v (standing n C w j) ≡ 0 = none_sum n C w (outside n) r.inside v j p q in
+      let b : loop v (standing n C w j) ≡ 0 = none_sum n C w loop r.unlooped v j p q in
+      let c : shut (day_of n C w) v (standing n C w j) ≡ 0 = none_sum n C w (shut (day_of n C w)) r.ended v j p q in
       let t : target_of n C w j < n = omega arith in
       record {
         place = t;

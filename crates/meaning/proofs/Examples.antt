@@ -1,7 +1,7 @@
 -- Document 01, "Examples": p1 to p10, as one joint statement about the meaning, by computation. Assumes nothing.
 use Prim.Native.Nat.{ℕ}
 use mathlib.Core.List.{List, [], ◌∷◌, ◌++◌, map}
-use mathlib.Core.Option.{Option, none, some}
+use Rattle.std.specs.Prelude.{Option, None, Some}
 use mathlib.Core.Path.{◌≡◌, refl}
 use Rattle.terms.specs.Refusal.{refusal_of, value_of}
 use Rattle.terms.specs.Run.{bad_name, same_run}
@@ -37,7 +37,7 @@ abbrev other : Run
 other = record { line = 2; trip = 100 }
 
 -- the day after calls in turn, and each call's refusal and number
-abbrev after : ℕ → Day → List Call → Day
+abbrev pub after : ℕ → Day → List Call → Day
 after D s [] = s
 after D s (q ∷ qs) = after D (call D s q).after qs
 
@@ -75,7 +75,7 @@ begun = (cell 4 3 ∷ cell 3 2 ∷ cell 2 1 ∷ []) ∷ (cell 1 5 ∷ cell 0 4 �
 
 -- the number of reversals after so many turned lists, none where a place still waits
 abbrev within : ℕ → Lists → ℕ → Option ℕ
-within m ls v = elim (turning 2 m ls (v ∷ []) 0) [ settled ls' r ↦ some r | dense ↦ none ]
+within m ls v = elim (turning 2 m ls (v ∷ []) 0) [ settled ls' r ↦ Some r | dense ↦ None ]
 
 abbrev lines : Day
 lines = after 2 (empty_day 3 3) (open_run a ∷ open_run other ∷ open_run c ∷ link a c ∷ [])
@@ -95,7 +95,7 @@ abbrev P3 : Type 0
 P3 = (last 2 (six 8) burst (link a d) ≡ (0, 6))
     × (map (ends (after 2 (six 8) (burst ++ (link a d ∷ [])))) (0 ∷ 1 ∷ 2 ∷ 3 ∷ 4 ∷ 5 ∷ [])
     ≡ (1 ∷ []) ∷ [] ∷ (0 ∷ []) ∷ (0 ∷ []) ∷ (1 ∷ []) ∷ (1 ∷ []) ∷ [])
-    × (push (after 2 (six 8) burst).lists 0 (cell 4 3) ≡ begun) × (within 1 begun 0 ≡ none) × (within 2 begun 0 ≡ some 6)
+    × (push (after 2 (six 8) burst).lists 0 (cell 4 3) ≡ begun) × (within 1 begun 0 ≡ None) × (within 2 begun 0 ≡ Some 6)
 
 -- D = 3: a holds d, c, b; unlink c-a leaves d, b, and the next link takes the freed cell
 abbrev P4 : Type 0

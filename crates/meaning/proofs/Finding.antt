@@ -1,50 +1,36 @@
 -- What is found: a run's place by its name, a link by its two places, and what the tests of a call say where none holds.
 -- Assumes nothing.
-use Prim.Native.Nat.{ℕ, zero, suc, ◌+◌, ◌*◌, ◌≤◌, ◌<◌, min}
+use Prim.Native.Nat.{ℕ, zero, suc, ◌+◌, ◌≤◌, ◌<◌, min}
 use mathlib.Core.Bool.{Bool, true, false, not, ◌||◌}
 use mathlib.Core.List.{List, [], ◌∷◌}
 use mathlib.Core.Logic.{◌⊎◌, inl, inr}
-use mathlib.Core.Option.{Option, none, some}
+use Rattle.std.specs.Prelude.{Option, None, Some}
 use mathlib.Core.Path.{◌≡◌, refl, sym, ap, ◌∙◌}
-use native.Mathlib.Nat.{mul_comm}
 use native.Mathlib.Omega.{arith}
 use lib.Dec.{eqb, ltb, leb-suc-suc}
 use lib.ListN.{length, get_or, get_or-eq_default}
 use borrow.Author.Tests.{eqb-true, eqb-false, ltb-true, ltb-false, not-false, lt-ltb}
+use Rattle.std.proofs.lemmas.Bool.{false_from_ne_true}
+pub use Rattle.std.proofs.lemmas.Bool.{or_parts as either_false}
 use Rattle.terms.specs.Run.{no_run, bad_name, same_run}
 use Rattle.terms.specs.declared.run.Run.{Run}
 use Rattle.terms.specs.declared.refusal.Refusal.{Refusal}
 use Rattle.terms.proofs.Names.{good_line, same_refl, same_eq as run-eq, same_ne as run-ne}
-use Rattle.meaning.specs.Cells.{Cell, Lists, list, without, seek, holds, row_sum, sum, same}
+use Rattle.meaning.specs.Cells.{Cell, list, without, seek, holds, row_sum, sum, same}
 use Rattle.meaning.specs.Day.{Day, run_of, place_of, is_open, lowest}
 use Rattle.meaning.specs.Calls.{Tests, pair_tests, first_refusal, linked, yes1}
 use Rattle.meaning.proofs.Same.{same_eq, same_ne}
 use Rattle.meaning.proofs.Lists.{first_passes, first_before, first_is}
 use Rattle.meaning.proofs.Right.{Right, pair}
-use Rattle.meaning.proofs.Sums.{sum_at, sum-add, sum_ext}
+use Rattle.meaning.proofs.Pairs.{toward, pair_rows}
 
 -- ---- links
--- how often a list has a link to v
-abbrev pub to : ℕ → List Cell → ℕ
-to v l = row_sum (λ c. same v c.target) l
-
--- the links between two places stand with one or the other
-pub pair_two : (u v : ℕ) (ls : Lists) → sum (pair u v) ls ≡ to v (list ls u) + to u (list ls v)
-pair_two u v ls =
-    omega (
-      arith,
-      sum-add (λ a c. same u a * same v c.target) (λ a c. same u c.target * same v a) ls,
-      sum_at (λ c. same v c.target) u ls,
-      sum_at (λ c. same u c.target) v ls,
-      sum_ext (λ a c. same u c.target * same v a) (λ a c. same v a * same u c.target) ls (λ a c. mul_comm (same u c.target) (same v a)),
-    )
-
-pub holds_to : (v : ℕ) (l : List Cell) → yes1 (holds v l) ≡ min 1 (to v l)
-holds_to v [] = refl
-holds_to v (c ∷ l) = go (holds_to v l) (eqb c.target v) refl
+pub holds_toward : (v : ℕ) (l : List Cell) → yes1 (holds v l) ≡ min 1 (toward v l)
+holds_toward v [] = refl
+holds_toward v (c ∷ l) = go (holds_toward v l) (eqb c.target v) refl
   where
-    go : yes1 (holds v l) ≡ min 1 (to v l) → (b : Bool) → eqb c.target v ≡ b
-        → yes1 (ltb (elim b [ true ↦ 0 | false ↦ suc (seek v l) ]) (suc (length l))) ≡ min 1 (same v c.target + to v l)
+    go : yes1 (holds v l) ≡ min 1 (toward v l) → (b : Bool) → eqb c.target v ≡ b
+        → yes1 (ltb (elim b [ true ↦ 0 | false ↦ suc (seek v l) ]) (suc (length l))) ≡ min 1 (same v c.target + toward v l)
     go h true e = rw (lt-ltb 0 (suc (length l)) (omega arith)) (omega (arith, same_eq v c.target (sym (eqb-true c.target v e))))
     go h false e = rw (leb-suc-suc) (omega (arith, same_ne v c.target (λ q. eqb-false c.target v e (sym q))))
 
@@ -59,9 +45,9 @@ linked_pair s u v =
     omega (
       arith,
       yes_either (holds v (list s.lists u)) (holds u (list s.lists v)),
-      holds_to v (list s.lists u),
-      holds_to u (list s.lists v),
-      pair_two u v s.lists,
+      holds_toward v (list s.lists u),
+      holds_toward u (list s.lists v),
+      pair_rows u v s.lists,
     )
 
 -- the cell that is found is a link to the place, and taking it out lowers every sum by what it counts for
@@ -100,11 +86,7 @@ pub run_same : (p q : Run) → p ≡ q → same_run p q ≡ true
 run_same p q e = rw e (same_refl q)
 
 pub run_other : (p q : Run) → (p ≡ q → ⊥) → same_run p q ≡ false
-run_other p q n = go (same_run p q) refl
-  where
-    go : (t : Bool) → same_run p q ≡ t → t ≡ false
-    go true e = absurd (n (run-eq p q e))
-    go false e = refl
+run_other p q n = false_from_ne_true (same_run p q) (λ e. n (run-eq p q e))
 
 pub run_or : (p q : Run) → (p ≡ q) ⊎ (p ≡ q → ⊥)
 run_or p q = go (same_run p q) refl
@@ -127,17 +109,13 @@ abbrev pub Failed : Tests → Type 0
 Failed [] = Unit {0}
 Failed (t ∷ ts) = (t.0 ≡ false) × Failed ts
 
-pub all_failed : (ts : Tests) → first_refusal ts ≡ none → Failed ts
+pub all_failed : (ts : Tests) → first_refusal ts ≡ None → Failed ts
 all_failed [] e = tt
 all_failed (t ∷ ts) e = go t.0 refl e (all_failed ts)
   where
-    go : (b : Bool) → t.0 ≡ b → ◌≡◌ {A = Option Refusal} (elim b [ true ↦ some t.1 | false ↦ first_refusal ts ]) none → (first_refusal ts ≡ none → Failed ts) → Failed (t ∷ ts)
+    go : (b : Bool) → t.0 ≡ b → ◌≡◌ {A = Option Refusal} (elim b [ true ↦ Some t.1 | false ↦ first_refusal ts ]) None → (first_refusal ts ≡ None → Failed ts) → Failed (t ∷ ts)
     go true q z f = absurd (let z' : ◌≡◌ {A = ℕ} 0 1 = cc in omega arith)
     go false q z f = (q, f z)
-
-pub either_false : (a b : Bool) → a || b ≡ false → (a ≡ false) × (b ≡ false)
-either_false true b e = absurd (let z : ◌≡◌ {A = ℕ} 0 1 = cc in omega arith)
-either_false false b e = (refl, e)
 
 pub either_true : (a b : Bool) → a || b ≡ true → a ≡ false → b ≡ true
 either_true true b e f = absurd (let z : ◌≡◌ {A = ℕ} 0 1 = cc in omega arith)
@@ -154,7 +132,7 @@ pub record Both (n : ℕ) (s : Day) (p q : Run) : Type 0 where
   pub other : p ≡ q → ⊥
   pub apart : place_of s p ≡ place_of s q → ⊥
 
-pub both_named : (n : ℕ) (s : Day) → length s.runs ≡ n → (p q : Run) (ts : Tests) → first_refusal (pair_tests s p q ts) ≡ none → Both n s p q × Failed ts
+pub both_named : (n : ℕ) (s : Day) → length s.runs ≡ n → (p q : Run) (ts : Tests) → first_refusal (pair_tests s p q ts) ≡ None → Both n s p q × Failed ts
 both_named n s e p q ts f =
     let a : Failed (pair_tests s p q ts) = all_failed (pair_tests s p q ts) f in
     let good : (bad_name p ≡ false) × (bad_name q ≡ false) = either_false (bad_name p) (bad_name q) a.0 in

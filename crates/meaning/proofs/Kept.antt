@@ -2,7 +2,7 @@
 use Prim.Native.Nat.{ℕ, zero, suc, ◌+◌, ◌*◌, ◌≤◌, ◌<◌}
 use mathlib.Core.Bool.{Bool, true, false}
 use mathlib.Core.List.{List, [], ◌∷◌}
-use mathlib.Core.Option.{Option, none, some}
+use Rattle.std.specs.Prelude.{Option, None, Some}
 use mathlib.Core.Path.{◌≡◌, refl, sym, ap, ◌∙◌}
 use native.Mathlib.Decide.{ℕ_discrete}
 use native.Mathlib.Nat.{mul-zero, mul-le-mul}
@@ -15,7 +15,7 @@ use Rattle.terms.specs.Run.{no_run, line_most}
 use Rattle.terms.specs.declared.run.Run.{Run}
 use Rattle.terms.specs.declared.refusal.Refusal.{Refusal}
 use Rattle.terms.specs.declared.refusal.Refusal.TheVariants.{Already, NoRoom}
-use Rattle.terms.specs.declared.refusal.Answer.{Answer}
+use Rattle.terms.specs.Refusal.{Answer}
 use Rattle.terms.proofs.Names.{good_line}
 use Rattle.meaning.specs.Cells.{Cell, Lists, Weight, list, push, without, seek, holds, sum, links, same}
 use Rattle.meaning.specs.Turning.{over, put, Ending, settled, dense, turning}
@@ -216,7 +216,7 @@ module _ (n D : ℕ) (s : Day) (ok : Right n D s) where
           }
 
   -- a link that no test refuses doesn't stand
-  pub new_link : (p q : Run) → first_refusal (tests s (link p q)) ≡ none → Both n s p q × (sum (pair (place_of s p) (place_of s q)) s.lists ≡ 0)
+  pub new_link : (p q : Run) → first_refusal (tests s (link p q)) ≡ None → Both n s p q × (sum (pair (place_of s p) (place_of s q)) s.lists ≡ 0)
   new_link p q e =
       let u : ℕ = place_of s p in
       let v : ℕ = place_of s q in
@@ -230,7 +230,7 @@ module _ (n D : ℕ) (s : Day) (ok : Right n D s) where
   do_link_right u v hu hv m lu lv z [] = ok
   do_link_right u v hu hv m lu lv z (i ∷ fs) = link_right u v hu hv m lu lv z i fs
 
-  pub act_right : (q : Call) → first_refusal (tests s q) ≡ none → Right n D (act D s q).after
+  pub act_right : (q : Call) → first_refusal (tests s q) ≡ None → Right n D (act D s q).after
   act_right (open_run p) e =
       let f : Failed (tests s (open_run p)) = all_failed (tests s (open_run p)) e in
       let h : lowest s < length s.runs = leb-false _ _ f.1.1.0 in
@@ -248,13 +248,13 @@ module _ (n D : ℕ) (s : Day) (ok : Right n D s) where
   act_right (reading ps) e = ok
 
 -- a call refuses and leaves the day, or none of its tests holds and it acts
-pub call_case : (P : Outcome → Type 0) (D : ℕ) (s : Day) (q : Call) → ((why : Refusal) → first_refusal (tests s q) ≡ some why → P (refused why s))
-    → (first_refusal (tests s q) ≡ none → P (act D s q)) → P (call D s q)
+pub call_case : (P : Outcome → Type 0) (D : ℕ) (s : Day) (q : Call) → ((why : Refusal) → first_refusal (tests s q) ≡ Some why → P (refused why s))
+    → (first_refusal (tests s q) ≡ None → P (act D s q)) → P (call D s q)
 call_case P D s q f g = go (first_refusal (tests s q)) refl
   where
     go : (r : Option Refusal) → first_refusal (tests s q) ≡ r → P (unless r s (act D s q))
-    go none e = g e
-    go (some why) e = f why e
+    go None e = g e
+    go (Some why) e = f why e
 
 pub call_right : (n D : ℕ) (s : Day) → Right n D s → (q : Call) → Right n D (call D s q).after
 call_right n D s ok q = call_case (λ o. Right n D o.after) D s q (λ why e. ok) (act_right n D s ok q)

@@ -3,7 +3,7 @@
 use Prim.Native.Nat.{ℕ, ◌+◌, ◌*◌, ◌≤◌, ◌<◌}
 use mathlib.Core.Bool.{Bool, true, false}
 use mathlib.Core.List.{List, [], ◌∷◌}
-use mathlib.Core.Option.{none}
+use Rattle.std.specs.Prelude.{None}
 use mathlib.Core.Path.{◌≡◌, refl, ◌∙◌}
 use native.Mathlib.Omega.{arith}
 use lib.Dec.{eqb}
@@ -33,7 +33,8 @@ Plain (reading ps) = ⊥
 abbrev Most : ℕ → Outcome → Type 0
 Most m o = value_of o.answer ≤ m
 
-yes_most : (b : Bool) → yes1 b ≤ 1
+-- a yes counts at most 1
+pub yes_most : (b : Bool) → yes1 b ≤ 1
 yes_most true = omega arith
 yes_most false = omega arith
 
@@ -69,7 +70,7 @@ module _ (n D : ℕ) (s : Day) (ok : Right n D s) where
 
   -- m bounds the places and the square of the links with a new one
   module _ (m : ℕ) (hn : n ≤ m) (one : 1 ≤ m) (hl : (links s.lists + 1) * (links s.lists + 1) ≤ m) where
-    act_most : (q : Call) → Plain q → first_refusal (tests s q) ≡ none → Most m (act D s q)
+    act_most : (q : Call) → Plain q → first_refusal (tests s q) ≡ None → Most m (act D s q)
     act_most (open_run p) w e = omega (arith, first_most (λ r. eqb r.line 0) s.runs, ok.places)
     act_most (close_run p) w e = omega arith
     act_most (link p q) w e =

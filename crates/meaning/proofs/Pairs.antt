@@ -16,6 +16,7 @@ use Rattle.meaning.proofs.Right.{pair}
 use Rattle.meaning.proofs.Sums.{sum-add, sum_at, sum_ext}
 use Rattle.meaning.proofs.Times.{times}
 use Rattle.meaning.proofs.Held.{steps}
+use Rattle.meaning.proofs.Walks.{standing}
 
 -- how many links of a list go to place t
 abbrev pub toward : ℕ → List Cell → ℕ
@@ -38,26 +39,17 @@ pair_rows p q ls =
     )
 
 module _ (n C : ℕ) (w : List ℕ) where
-  -- cell i as a list of a day has it
-  abbrev pub cell_at : ℕ → Cell
-  cell_at i = record { index = i; target = target_of n C w i }
-
-  pub cells_length : (k i : ℕ) → length (cells n C w k i) ≡ k
-  unfolding cells
-  cells_length zero i = refl
-  cells_length (suc k) i = ap suc (cells_length k (next_of n C w i))
-
   -- a cell's weight is a part of its list's, and a list of cells of no weight has none
-  pub cell_part : (g : Cell → ℕ) (k i j : ℕ) → 0 < times j (steps n C w k i) → g (cell_at j) ≤ row_sum g (cells n C w k i)
+  pub cell_part : (g : Cell → ℕ) (k i j : ℕ) → 0 < times j (steps n C w k i) → g (standing n C w j) ≤ row_sum g (cells n C w k i)
   unfolding cells steps times
   cell_part g zero i j q = absurd (omega arith)
   cell_part g (suc k) i j q =
       ⊎_elim
-      (λ e. omega (arith, ap (λ (z : ℕ). g (cell_at z)) e.0))
+      (λ e. omega (arith, ap (λ (z : ℕ). g (standing n C w z)) e.0))
       (λ e. omega (arith, cell_part g k (next_of n C w i) j (omega arith)))
       (same_cases j i)
 
-  pub cells_none : (g : Cell → ℕ) (k i : ℕ) → ((j : ℕ) → 0 < times j (steps n C w k i) → g (cell_at j) ≡ 0) → row_sum g (cells n C w k i) ≡ 0
+  pub cells_none : (g : Cell → ℕ) (k i : ℕ) → ((j : ℕ) → 0 < times j (steps n C w k i) → g (standing n C w j) ≡ 0) → row_sum g (cells n C w k i) ≡ 0
   unfolding cells steps times
   cells_none g zero i h = refl
   cells_none g (suc k) i h = omega (arith, h i (omega (arith, same_self i)), cells_none g k (next_of n C w i) (λ j q. h j (omega arith)))

@@ -1,23 +1,15 @@
 -- Strictly rising sets of places: no place stands in one twice. Assumes nothing.
 use Prim.Native.Nat.{ℕ, ◌≤◌, ◌<◌}
-use mathlib.Core.Bool.{Bool, true, false, ◌&&◌}
+use mathlib.Core.Bool.{true}
 use mathlib.Core.List.{List, [], ◌∷◌}
-use mathlib.Core.Path.{◌≡◌, refl}
+use mathlib.Core.Path.{◌≡◌}
 use native.Mathlib.Decide.{ℕ_discrete}
 use native.Mathlib.Omega.{arith}
 use lib.Dec.{ltb}
 use borrow.Author.Tests.{ltb-true}
+pub use Rattle.std.proofs.lemmas.Bool.{and_parts as and_true, and_right as and_false}
 use Rattle.meaning.specs.Calls.{rising, in_set}
 use Rattle.meaning.proofs.Same.{same_le, same_ne}
-
--- two tests that must both pass
-pub and_false : (a b : Bool) → b ≡ false → (a && b) ≡ false
-and_false true b e = e
-and_false false b e = refl
-
-pub and_true : (a b : Bool) → (a && b) ≡ true → (a ≡ true) × (b ≡ true)
-and_true true b e = (refl, e)
-and_true false b e = absurd (let z : ◌≡◌ {A = ℕ} 0 1 = cc in omega arith)
 
 pub rising_tail : (p q : ℕ) (ps : List ℕ) → rising (p ∷ q ∷ ps) ≡ true → (p < q) × (rising (q ∷ ps) ≡ true)
 rising_tail p q ps e = let a : (ltb p q ≡ true) × (rising (q ∷ ps) ≡ true) = and_true (ltb p q) (rising (q ∷ ps)) e in (ltb-true p q a.0, a.1)

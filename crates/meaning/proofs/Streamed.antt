@@ -7,8 +7,8 @@ use lib.ListN.{length, drop, length-drop}
 use Rattle.record.specs.Bytes.{record_bytes}
 use Rattle.record.specs.Reading.{reading_of}
 use Rattle.record.specs.declared.Record.{Record}
-use Rattle.record.specs.declared.reader.Reading.{Reading}
-use Rattle.record.specs.declared.reader.Reading.TheVariants as reading
+use Rattle.std.specs.Prelude.{Option, Some, None, Result, Ok, Err}
+use Rattle.terms.specs.declared.refusal.Refusal.{Refusal}
 use Rattle.record.proofs.Readings.{whole_long}
 use Rattle.meaning.specs.Promise.{Tables, progress}
 use Rattle.meaning.specs.Stream.{DayRecords, read_on, read_all, records_of, Progress, carry, carry_all}
@@ -18,11 +18,11 @@ unfolding read_all
 read_within zero s = omega arith
 read_within (suc k) s = go (reading_of s) refl (read_all k (drop record_bytes s)) (read_within k (drop record_bytes s))
   where
-    go : (r : Reading) → reading_of s ≡ r → (rest : DayRecords) → record_bytes * length rest.records ≤ length (drop record_bytes s)
+    go : (r : Option (Result Record Refusal)) → reading_of s ≡ r → (rest : DayRecords) → record_bytes * length rest.records ≤ length (drop record_bytes s)
         → record_bytes * length (read_on r rest).records ≤ length s
-    go (reading.Whole x) e rest h = omega (arith, whole_long s x e, length-drop record_bytes s)
-    go reading.End e rest h = omega arith
-    go (reading.Refused why) e rest h = omega arith
+    go (Some (Ok x)) e rest h = omega (arith, whole_long s x e, length-drop record_bytes s)
+    go None e rest h = omega arith
+    go (Some (Err why)) e rest h = omega arith
 
 carried_all : (D : ℕ) (rs : List Record) (p : Progress) → (carry_all D rs p).carried ≡ p.carried + length rs
 unfolding carry_all

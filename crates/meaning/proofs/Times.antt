@@ -1,7 +1,7 @@
 -- How often a number stands in a list, and the pigeonhole: a list of C numbers below C, none twice, has each once.
 -- Assumes nothing.
 use Prim.Native.Nat.{ℕ, zero, suc, ◌+◌, ◌≤◌, ◌<◌}
-use mathlib.Core.List.{List, [], ◌∷◌, ◌++◌}
+use mathlib.Core.List.{List, [], ◌∷◌, ◌++◌, Memᴰ}
 use mathlib.Core.Logic.{⊎_elim}
 use mathlib.Core.Path.{◌≡◌, refl, sym, ◌∙◌, subst}
 use native.Mathlib.Omega.{arith}
@@ -58,12 +58,17 @@ unfolding Below
 below_append c [] b p q = q
 below_append c (x ∷ a) b p q = (p.0, below_append c a b p.1 q)
 
+pub below_all : (c : ℕ) (l : List ℕ) → ((x : ℕ) → Memᴰ x l → x < c) → Below c l
+unfolding Below
+below_all c [] h = tt
+below_all c (x ∷ l) h = (h x (Memᴰ.head refl), below_all c l (λ y m. h y (Memᴰ.tail m)))
+
 pub sum_times : (c : ℕ) (l : List ℕ) → Below c l → sum_to c (λ k. times k l) ≡ length l
 unfolding times Below
 sum_times c [] h = sum-zero c
 sum_times c (x ∷ l) h = omega (arith, sum-add c (λ k. same k x) (λ k. times k l), sum_times c l h.1, sum_same c x h.0)
 
-sum-le : (c : ℕ) (f : ℕ → ℕ) → ((k : ℕ) → k < c → f k ≤ 1) → sum_to c f ≤ c
+pub sum-le : (c : ℕ) (f : ℕ → ℕ) → ((k : ℕ) → k < c → f k ≤ 1) → sum_to c f ≤ c
 unfolding sum_to
 sum-le zero f h = omega arith
 sum-le (suc c) f h = omega (arith, sum-le c f (λ k p. h k (omega arith)), h c (omega arith))

@@ -13,20 +13,17 @@ use borrow.Author.Tests.{eqb-true, eqb-false, ltb-true, ltb-false}
 use Rattle.meaning.specs.Cells.{Cell, Lists, aimed, list, push, bare, sum, same}
 use Rattle.meaning.specs.Turning.{Work, over, put, hand, hand_all, turn}
 use Rattle.meaning.proofs.Same.{same_eq, same_le, same_ne}
+use Rattle.meaning.proofs.Times.{times, Below, below_all, sum_times, sum-le, each_once}
 use Rattle.meaning.proofs.Right.{outside}
 use Rattle.meaning.proofs.Sums.{push_length, bare_length, Near, near}
-
--- how often z waits
-abbrev pub count : ℕ → List ℕ → ℕ
-count z [] = 0
-count z (y ∷ st) = same z y + count z st
 
 -- 1 where a length is greater than D, else 0
 abbrev pub beyond : ℕ → ℕ → ℕ
 beyond D L = min 1 (L - D)
 
+-- a place waits once where its list is longer than D, else not
 abbrev pub Waits : ℕ → Lists → List ℕ → Type 0
-Waits D ls st = (z : ℕ) → count z st ≡ beyond D (length (list ls z))
+Waits D ls st = (z : ℕ) → times z st ≡ beyond D (length (list ls z))
 
 -- the list of any place after a cell is put at the front of x's
 pub push_list : (ls : Lists) (x : ℕ) (c : Cell) → x < length ls → list (push ls x c) x ≡ c ∷ list ls x
@@ -47,10 +44,11 @@ bare_other ls w z n = get_or-set_other ls w z [] [] n
 pub past_list : (ls : Lists) (z : ℕ) → length ls ≤ z → list ls z ≡ []
 past_list ls z h = get_or-eq_default ls [] {n = z} h
 
-put_count : (z x a b : ℕ) (st : List ℕ) → count z (put (eqb a b) x st) ≡ count z st + min (same z x) (same a b)
-put_count z x a b st = go (eqb a b) refl
+put_times : (z x a b : ℕ) (st : List ℕ) → times z (put (eqb a b) x st) ≡ times z st + min (same z x) (same a b)
+unfolding times
+put_times z x a b st = go (eqb a b) refl
   where
-    go : (t : Bool) → eqb a b ≡ t → count z (put t x st) ≡ count z st + min (same z x) (same a b)
+    go : (t : Bool) → eqb a b ≡ t → times z (put t x st) ≡ times z st + min (same z x) (same a b)
     go true e = omega (arith, same_eq a b (eqb-true a b e), same_le z x)
     go false e = omega (arith, same_ne a b (eqb-false a b e))
 
@@ -66,10 +64,10 @@ pub push_waits : (D : ℕ) (ls : Lists) (st : List ℕ) (x : ℕ) (c : Cell) →
     → Waits D (push ls x c) (put (over D (push ls x c) x) x st)
 push_waits D ls st x c h p z =
     let e : length (list (push ls x c) x) ≡ suc (length (list ls x)) = ap length (push_list ls x c h) in
-    let q : count z (put (over D (push ls x c) x) x st) ≡ count z st + min (same z x) (same (suc (length (list ls x))) (D + 1)) =
-    put_count z x (length (list (push ls x c) x)) (D + 1) st ∙ rw e in
+    let q : times z (put (over D (push ls x c) x) x st) ≡ times z st + min (same z x) (same (suc (length (list ls x))) (D + 1)) =
+    put_times z x (length (list (push ls x c) x)) (D + 1) st ∙ rw e in
     elim (ℕ_discrete z x) [
-      | yes f ↦ q ∙ rw (f, e, beyond_suc) (omega (arith, p x, ap (λ (y : ℕ). count y st) f, same_eq x x refl, same_le (suc (length (list ls x))) (D + 1)))
+      | yes f ↦ q ∙ rw (f, e, beyond_suc) (omega (arith, p x, ap (λ (y : ℕ). times y st) f, same_eq x x refl, same_le (suc (length (list ls x))) (D + 1)))
       | no n ↦ q ∙ rw (push_other ls x z c n) (omega (arith, p z, same_ne z x n))
     ]
 
@@ -85,6 +83,7 @@ hand_all_waits D w n (c ∷ cs) k e h p =
     hand_all_waits D w n cs (hand D w c k) (push_length k.lists c.target (aimed c w) ∙ e) (omega arith) (hand_waits D w c k (omega arith) p)
 
 pub bare_waits : (D : ℕ) (ls : Lists) (w : ℕ) (st : List ℕ) → Waits D ls (w ∷ st) → Waits D (bare ls w) st
+unfolding times
 bare_waits D ls w st p z = elim (ℕ_discrete z w) [
   | yes e ↦ rw e (omega (arith, p w, same_eq w w refl, ap length (bare_list ls w)))
   | no n ↦ rw (bare_other ls w z n) (omega (arith, p z, same_ne z w n))
@@ -97,22 +96,26 @@ turn_waits D w n ls st e h p =
 
 -- no place waits: no list is longer than D, and the other way round
 pub waits_none : (D : ℕ) (ls : Lists) → Waits D ls [] → (z : ℕ) → length (list ls z) ≤ D
+unfolding times
 waits_none D ls p z = omega (arith, p z)
 
 pub none_waits : (D : ℕ) (ls : Lists) → ((z : ℕ) → length (list ls z) ≤ D) → Waits D ls []
+unfolding times
 none_waits D ls h z = omega (arith, h z)
 
 -- a place waits: its list is longer than D, and it is a place
 pub waits_first : (D : ℕ) (ls : Lists) (w : ℕ) (st : List ℕ) → Waits D ls (w ∷ st) → D < length (list ls w)
+unfolding times
 waits_first D ls w st p = omega (arith, p w, same_eq w w refl)
 
-count_mem : (z : ℕ) (st : List ℕ) → Memᴰ z st → 1 ≤ count z st
-count_mem z [] m = elim m [ ]
-count_mem z (y ∷ st) (Memᴰ.head e) = omega (arith, same_eq z y e)
-count_mem z (y ∷ st) (Memᴰ.tail m) = omega (arith, count_mem z st m)
+times_mem : (z : ℕ) (st : List ℕ) → Memᴰ z st → 1 ≤ times z st
+unfolding times
+times_mem z [] m = elim m [ ]
+times_mem z (y ∷ st) (Memᴰ.head e) = omega (arith, same_eq z y e)
+times_mem z (y ∷ st) (Memᴰ.tail m) = omega (arith, times_mem z st m)
 
 pub waits_over : (D : ℕ) (ls : Lists) (st : List ℕ) → Waits D ls st → (z : ℕ) → Memᴰ z st → D < length (list ls z)
-waits_over D ls st p z m = omega (arith, p z, count_mem z st m)
+waits_over D ls st p z m = omega (arith, p z, times_mem z st m)
 
 pub waits_place : (D : ℕ) (ls : Lists) (st : List ℕ) → Waits D ls st → (z : ℕ) → Memᴰ z st → z < length ls
 waits_place D ls st p z m = ltor (ltb z (length ls)) refl
@@ -122,62 +125,18 @@ waits_place D ls st p z m = ltor (ltb z (length ls)) refl
     ltor false e = absurd (omega (arith, waits_over D ls st p z m, ap length (past_list ls z (ltb-false _ _ e))))
 
 -- ---- no more places wait than there are
--- how often the places below k wait
-abbrev total : ℕ → List ℕ → ℕ
-total zero st = 0
-total (suc k) st = count k st + total k st
-
-total_none : (k : ℕ) → total k [] ≡ 0
-total_none zero = refl
-total_none (suc k) = omega (arith, total_none k)
-
--- how many of the places below k are y
-abbrev alone : ℕ → ℕ → ℕ
-alone zero y = 0
-alone (suc k) y = same k y + alone k y
-
-total_more : (k y : ℕ) (st : List ℕ) → total k (y ∷ st) ≡ alone k y + total k st
-total_more zero y st = refl
-total_more (suc k) y st = omega (arith, total_more k y st)
-
-alone_far : (k y : ℕ) → k ≤ y → alone k y ≡ 0
-alone_far zero y h = refl
-alone_far (suc k) y h = omega (arith, same_ne k y (omega arith), alone_far k y (omega arith))
-
-alone_one : (k y : ℕ) → y < k → alone k y ≡ 1
-alone_one zero y h = absurd (omega arith)
-alone_one (suc k) y h = elim (ℕ_discrete k y) [
-  | yes e ↦ omega (arith, same_eq k y e, alone_far k y (omega arith))
-  | no n ↦ omega (arith, same_ne k y n, alone_one k y (omega arith))
-]
-
-total_all : (n : ℕ) (st : List ℕ) → ((z : ℕ) → Memᴰ z st → z < n) → total n st ≡ length st
-total_all n [] h = total_none n
-total_all n (y ∷ st) h = omega (arith, total_more n y st, alone_one n y (h y (Memᴰ.head refl)), total_all n st (λ z m. h z (Memᴰ.tail m)))
-
-total_le : (k : ℕ) (st : List ℕ) → ((z : ℕ) → count z st ≤ 1) → total k st ≤ k
-total_le zero st h = omega arith
-total_le (suc k) st h = omega (arith, h k, total_le k st h)
-
-total_less : (k : ℕ) (st : List ℕ) → ((z : ℕ) → count z st ≤ 1) → (z : ℕ) → z < k → count z st ≡ 0 → total k st < k
-total_less zero st h z l e = absurd (omega arith)
-total_less (suc k) st h z l e = elim (ℕ_discrete k z) [
-  | yes f ↦ omega (arith, ap (λ (y : ℕ). count y st) f, total_le k st h)
-  | no n ↦ omega (arith, h k, total_less k st h z (omega arith) e)
-]
-
 pub waits_fit : (D n : ℕ) (ls : Lists) (st : List ℕ) → length ls ≡ n → Waits D ls st → length st ≤ n
 waits_fit D n ls st e p =
-    omega (arith, total_all n st (λ z m. omega (arith, waits_place D ls st p z m)), total_le n st (λ z. omega (arith, p z)))
+    omega (arith, sum_times n st (below_all n st (λ z m. omega (arith, waits_place D ls st p z m))), sum-le n (λ z. times z st) (λ z q. omega (arith, p z)))
 
 -- one fewer where some place's list is at most D, as the emptied one's
 pub waits_room : (D n : ℕ) (ls : Lists) (st : List ℕ) → length ls ≡ n → Waits D ls st → (z : ℕ) → z < n → length (list ls z) ≤ D → length st < n
-waits_room D n ls st e p z l h =
-    omega (
-      arith,
-      total_all n st (λ y m. omega (arith, waits_place D ls st p y m)),
-      total_less n st (λ y. omega (arith, p y)) z l (omega (arith, p z)),
-    )
+waits_room D n ls st e p z l h = elim (ℕ_discrete (length st) n) [
+  | no d ↦ omega (arith, waits_fit D n ls st e p)
+  | yes f ↦
+      let b : Below n st = below_all n st (λ y m. omega (arith, waits_place D ls st p y m)) in
+      omega (arith, each_once n st b f (λ y q. omega (arith, p y)) z l, p z)
+]
 
 -- a place whose length becomes D + 1 finds room among the n words
 pub hand_room : (D w n : ℕ) (c : Cell) (k : Work) → length k.lists ≡ n → c.target < n → Waits D k.lists k.waiting

@@ -1,12 +1,12 @@
 -- Document 01, "What each call does" and "Refusal numbers": the calls on a day.
 use Rattle.std.specs.Prelude.{ℕ, ◌+◌, ◌-◌, ◌*◌, ◌/◌, Bool, true, false, not, ◌||◌, ◌&&◌, List, [], ◌∷◌, eqb, ltb, leb, length, get_or, set}
-use Rattle.std.proofs.Math.Option.{Option, none, some}
+use Rattle.std.specs.Prelude.{Option, None, Some}
 use Rattle.terms.specs.Run.{no_run, bad_name, same_run}
 use Rattle.terms.specs.declared.run.Run.{Run}
 use Rattle.terms.specs.declared.refusal.Refusal.{Refusal}
 use Rattle.terms.specs.declared.refusal.Refusal.TheVariants.{BadName, SameRun, NotOpen, Already, NoLink, NoRoom, TooDense, Touched, BadSet}
-use Rattle.terms.specs.declared.refusal.Answer.{Answer}
-use Rattle.terms.specs.declared.refusal.Answer.TheVariants.{Done, Refused}
+use Rattle.terms.specs.Refusal.{Answer}
+use Rattle.std.specs.Prelude.{Ok, Err}
 use Rattle.meaning.specs.Cells.{Cell, Lists, list, push, without, seek, holds, sum, links, same}
 use Rattle.meaning.specs.Turning.{over, Ending, settled, dense, turning}
 use Rattle.meaning.specs.Day.{Day, run_of, place_of, is_open, lowest}
@@ -25,10 +25,10 @@ pub record Outcome : Type 0 where
 
 -- done with a number; refused: the day stays
 abbrev pub done : ℕ → Day → Outcome
-done k s = record { answer = Done k; after = s; began = false }
+done k s = record { answer = Ok k; after = s; began = false }
 
 abbrev pub refused : Refusal → Day → Outcome
-refused why s = record { answer = Refused why; after = s; began = false }
+refused why s = record { answer = Err why; after = s; began = false }
 
 -- the link of two places is in either's list
 abbrev pub linked : Day → ℕ → ℕ → Bool
@@ -77,8 +77,8 @@ tests s (reading ps) = (bad_set ps, BadSet) ∷ (not (all_open s ps), NotOpen) �
 
 -- the first test that holds gives the refusal
 abbrev pub first_refusal : Tests → Option Refusal
-first_refusal [] = none
-first_refusal (t ∷ ts) = elim t.0 [ true ↦ some t.1 | false ↦ first_refusal ts ]
+first_refusal [] = None
+first_refusal (t ∷ ts) = elim t.0 [ true ↦ Some t.1 | false ↦ first_refusal ts ]
 
 -- open takes the lowest free place and returns it; close sets the place's line and number to 0
 abbrev pub rename : Day → ℕ → Run → Day
@@ -86,8 +86,8 @@ rename s v p = record { runs = set s.runs v p; lists = s.lists; free = s.free }
 
 -- turning's end: done with the number of reversals, or too dense and the day as it was
 abbrev pub ended : Day → List ℕ → Ending → Outcome
-ended s fs (settled ls r) = record { answer = Done r; after = record { runs = s.runs; lists = ls; free = fs }; began = true }
-ended s fs dense = record { answer = Refused TooDense; after = s; began = true }
+ended s fs (settled ls r) = record { answer = Ok r; after = record { runs = s.runs; lists = ls; free = fs }; began = true }
+ended s fs dense = record { answer = Err TooDense; after = s; began = true }
 
 -- the first free cell goes to the front of u's list with target v; if u's length is then D + 1, turning begins with u alone
 -- waiting, and m is the number of links, the new one included
@@ -140,8 +140,8 @@ act D s (reading ps) = done (inside s ps / (length ps - 1)) s
 
 -- refused, or what the call does
 abbrev pub unless : Option Refusal → Day → Outcome → Outcome
-unless none s o = o
-unless (some why) s o = refused why s
+unless None s o = o
+unless (Some why) s o = refused why s
 
 -- a call on a day
 abbrev pub call : ℕ → Day → Call → Outcome

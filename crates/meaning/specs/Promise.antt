@@ -1,11 +1,11 @@
 -- What every public call promises, for all numbers and tables handed in: its answer and each table as it leaves it.
 use Rattle.std.specs.Prelude.{ℕ, ◌*◌, ◌/◌, ◌≤◌, Bool, true, false, List, ◌≡◌, length, replicate}
-use Rattle.std.proofs.Math.Option.{Option, none, some}
+use Rattle.std.specs.Prelude.{Option, None, Some}
 use Rattle.terms.specs.Size.{InRoom, store_words, waiting_words, stream_most, total_most}
 use Rattle.terms.specs.Refusal.{number_of}
 use Rattle.terms.specs.declared.run.Run.{Run}
-use Rattle.terms.specs.declared.refusal.Answer.{Answer}
-use Rattle.terms.specs.declared.refusal.Answer.TheVariants.{Done, Refused}
+use Rattle.terms.specs.Refusal.{Answer}
+use Rattle.std.specs.Prelude.{Ok, Err}
 use Rattle.terms.specs.declared.refusal.Refusal.{Refusal}
 use Rattle.terms.specs.declared.refusal.Refusal.TheVariants.{Sizes, Unsound}
 use Rattle.record.specs.Bytes.{record_bytes}
@@ -26,14 +26,14 @@ pub record Carries (n C D : ℕ) (q : Call) (w : List ℕ) (a : Answer) (w' : Li
 
 -- a call that takes the store alone: refusals 1 and 2 leave it, else it carries the call out
 pub record Promise (n C D : ℕ) (q : Call) (w : List ℕ) (a : Answer) (w' : List ℕ) : Type 0 where
-  pub sizes : (Sized n C D w → ⊥) → (a ≡ Refused Sizes) × (w' ≡ w)
-  pub unsound : Sized n C D w → (Sound n C D w → ⊥) → (a ≡ Refused Unsound) × (w' ≡ w)
+  pub sizes : (Sized n C D w → ⊥) → (a ≡ Err Sizes) × (w' ≡ w)
+  pub unsound : Sized n C D w → (Sound n C D w → ⊥) → (a ≡ Err Unsound) × (w' ≡ w)
   pub sound : Sound n C D w → Carries n C D q w a w'
 
 -- empty takes n, C and the store: refusal 1, or the words that document 01 lists
 pub record EmptyPromise (n C : ℕ) (w : List ℕ) (a : Answer) (w' : List ℕ) : Type 0 where
-  pub sizes : (InRoom n C × (length w ≡ store_words n C) → ⊥) → (a ≡ Refused Sizes) × (w' ≡ w)
-  pub done : InRoom n C → length w ≡ store_words n C → (a ≡ Done 0) × (w' ≡ empty_table n C)
+  pub sizes : (InRoom n C × (length w ≡ store_words n C) → ⊥) → (a ≡ Err Sizes) × (w' ≡ w)
+  pub done : InRoom n C → length w ≡ store_words n C → (a ≡ Ok 0) × (w' ≡ empty_table n C)
 
 -- link and stream also take the spare, as long as the store, and the waiting table of n words
 pub record Lent (n C D : ℕ) (w spare waiting : List ℕ) : Type 0 where
@@ -58,8 +58,8 @@ pub record LinkCarries (n C D : ℕ) (p q : Run) (w spare waiting : List ℕ) (a
 
 -- link: refusal 1, refusal 2, or the call on the day
 pub record LinkPromise (n C D : ℕ) (p q : Run) (w spare waiting : List ℕ) (a : Answer) (w' spare' waiting' : List ℕ) : Type 0 where
-  pub sizes : (Lent n C D w spare waiting → ⊥) → (a ≡ Refused Sizes) × (w' ≡ w) × (spare' ≡ spare) × (waiting' ≡ waiting)
-  pub unsound : Lent n C D w spare waiting → (Sound n C D w → ⊥) → (a ≡ Refused Unsound) × (w' ≡ w) × (spare' ≡ spare) × (waiting' ≡ waiting)
+  pub sizes : (Lent n C D w spare waiting → ⊥) → (a ≡ Err Sizes) × (w' ≡ w) × (spare' ≡ spare) × (waiting' ≡ waiting)
+  pub unsound : Lent n C D w spare waiting → (Sound n C D w → ⊥) → (a ≡ Err Unsound) × (w' ≡ w) × (spare' ≡ spare) × (waiting' ≡ waiting)
   pub sound : Lent n C D w spare waiting → Sound n C D w → LinkCarries n C D p q w spare waiting a w' spare' waiting'
 
 -- the tables that a stream is lent beside its bytes, and its two running totals
@@ -86,24 +86,24 @@ pub record Result : Type 0 where
 
 -- the refusal that stopped a stream as a number, 0 at the end of the bytes
 abbrev pub stop_number : Option Refusal → ℕ
-stop_number none = 0
-stop_number (some why) = number_of why
+stop_number None = 0
+stop_number (Some why) = number_of why
 
 -- a stream on a sound table, from the day that it holds
 abbrev pub progress : ℕ → ℕ → ℕ → List ℕ → Tables → Progress
 progress n C D bytes t =
     carry_all D (records_of bytes).records
-    (record { day = day_of n C t.store; answers = t.answers; carried = 0; accepted = t.accepted; reversals = t.reversals; turned = none })
+    (record { day = day_of n C t.store; answers = t.answers; carried = 0; accepted = t.accepted; reversals = t.reversals; turned = None })
 
 -- spare and waiting hold what the last link that began turning left, and stay if none did
 abbrev pub SpareIs : ℕ → ℕ → ℕ → Option Day → List ℕ → List ℕ → Type 0
-SpareIs n C D none spare spare' = spare' ≡ spare
-SpareIs n C D (some s) spare spare' = Holds n C D spare' s
+SpareIs n C D None spare spare' = spare' ≡ spare
+SpareIs n C D (Some s) spare spare' = Holds n C D spare' s
 
 -- every word of waiting is 0 after a link that began turning
 abbrev pub waiting_then : ℕ → Option Day → List ℕ → List ℕ
-waiting_then n none waiting = waiting
-waiting_then n (some s) waiting = replicate n 0
+waiting_then n None waiting = waiting
+waiting_then n (Some s) waiting = replicate n 0
 
 -- a stream on a sound table: what it returns, and every table and total as its records leave them
 pub record StreamCarries (n C D : ℕ) (bytes : List ℕ) (t : Tables) (r : Result) (t' : Tables) : Type 0 where
@@ -118,6 +118,6 @@ pub record StreamCarries (n C D : ℕ) (bytes : List ℕ) (t : Tables) (r : Resu
 
 -- stream: refusal 1, refusal 2, or its records in turn
 pub record StreamPromise (n C D : ℕ) (bytes : List ℕ) (t : Tables) (r : Result) (t' : Tables) : Type 0 where
-  pub sizes : (StreamLent n C D bytes t → ⊥) → (r ≡ record { stop = some Sizes; carried = 0 }) × (t' ≡ t)
-  pub unsound : StreamLent n C D bytes t → (Sound n C D t.store → ⊥) → (r ≡ record { stop = some Unsound; carried = 0 }) × (t' ≡ t)
+  pub sizes : (StreamLent n C D bytes t → ⊥) → (r ≡ record { stop = Some Sizes; carried = 0 }) × (t' ≡ t)
+  pub unsound : StreamLent n C D bytes t → (Sound n C D t.store → ⊥) → (r ≡ record { stop = Some Unsound; carried = 0 }) × (t' ≡ t)
   pub sound : StreamLent n C D bytes t → Sound n C D t.store → StreamCarries n C D bytes t r t'

@@ -1,18 +1,14 @@
 -- Document 01, "Day records": a stream is its records' single calls in turn.
-use Rattle.std.specs.Prelude.{ℕ, zero, suc, ◌+◌, ◌*◌, Bool, true, false, List, [], ◌∷◌, length, drop}
-use Rattle.std.proofs.Math.Option.{Option, none, some}
+use Rattle.std.specs.Prelude.{ℕ, zero, suc, ◌+◌, ◌*◌, Bool, true, false, List, [], ◌∷◌, length, drop, Option, None, Some, Result, Ok, Err}
 use Rattle.terms.specs.Refusal.{refusal_of, value_of}
 use Rattle.terms.specs.declared.run.Run.{Run}
 use Rattle.terms.specs.declared.refusal.Refusal.{Refusal}
-use Rattle.terms.specs.declared.refusal.Answer.{Answer}
-use Rattle.terms.specs.declared.refusal.Answer.TheVariants.{Done, Refused}
+use Rattle.terms.specs.Refusal.{Answer}
 use Rattle.record.specs.Bytes.{record_bytes}
 use Rattle.record.specs.Reading.{reading_of}
 use Rattle.record.specs.declared.Kind.{Kind}
 use Rattle.record.specs.declared.Kind.TheVariants.{Open, Close, Link, Unlink, Ask}
 use Rattle.record.specs.declared.Record.{Record}
-use Rattle.record.specs.declared.reader.Reading.{Reading}
-use Rattle.record.specs.declared.reader.Reading.TheVariants as reading
 use Rattle.meaning.specs.Table.{written}
 use Rattle.meaning.specs.Day.{Day}
 use Rattle.meaning.specs.Calls.{Call, open_run, close_run, link, unlink, ask, reading as read_set, Outcome, call, yes1}
@@ -35,14 +31,14 @@ pub record DayRecords : Type 0 where
   pub stop : Option Refusal
 
 -- a record goes before what is read after it; the end, or a record that is none, is the last
-abbrev pub read_on : Reading → DayRecords → DayRecords
-read_on (reading.Whole r) rest = record { records = r ∷ rest.records; stop = rest.stop }
-read_on reading.End rest = record { records = []; stop = none }
-read_on (reading.Refused why) rest = record { records = []; stop = some why }
+abbrev pub read_on : Option (Result Record Refusal) → DayRecords → DayRecords
+read_on (Some (Ok r)) rest = record { records = r ∷ rest.records; stop = rest.stop }
+read_on None rest = record { records = []; stop = None }
+read_on (Some (Err why)) rest = record { records = []; stop = Some why }
 
 -- each is read from the rest of the stream that starts after the one before; k is at least the number of bytes
 unfoldable pub read_all : ℕ → List ℕ → DayRecords
-read_all zero s = record { records = []; stop = none }
+read_all zero s = record { records = []; stop = None }
 read_all (suc k) s = read_on (reading_of s) (read_all k (drop record_bytes s))
 
 -- the records of all the bytes
@@ -51,8 +47,8 @@ records_of s = read_all (length s) s
 
 -- an accepted link counts 1, and the reversals it answers
 abbrev pub accepts : Answer → Bool
-accepts (Done k) = true
-accepts (Refused why) = false
+accepts (Ok k) = true
+accepts (Err why) = false
 
 abbrev pub taken : Call → Answer → ℕ
 taken (open_run x) a = 0
@@ -82,7 +78,7 @@ pub record Progress : Type 0 where
 
 -- the day as at entry of the last link that began turning: s, if this one did
 abbrev pub latest : Bool → Day → Option Day → Option Day
-latest true s before = some s
+latest true s before = Some s
 latest false s before = before
 
 -- the two answer words of the i-th record: refusal and number

@@ -7,11 +7,12 @@ use native.Mathlib.Omega.{arith}
 use lib.Dec.{eqb}
 use lib.ListN.{length, get_or, take}
 use borrow.Author.Tests.{eq-eqb, ne_eqb, eqb-true}
+use Rattle.std.specs.Prelude.{Ok, Err}
+use Rattle.terms.specs.declared.refusal.Refusal.TheVariants.{WrongKind}
 use Rattle.terms.specs.declared.run.Run.{Run}
 use Rattle.record.specs.Bytes.{mark, marked, kind_byte, kind_of, pair_at, run_at}
 use Rattle.record.specs.declared.Kind.{Kind}
 use Rattle.record.specs.declared.Kind.TheVariants.{Open, Close, Link, Unlink, Ask}
-use Rattle.record.specs.declared.reader.KindByte.TheVariants.{Known, Unknown}
 
 -- the mark is there where the first two bytes are those of the mark
 pub marked_yes : (s : List ℕ) → take 2 s ≡ mark → marked s ≡ true
@@ -20,30 +21,8 @@ marked_yes [] e = absurd (let z : ◌≡◌ {A = ℕ} 0 1 = cc in omega arith)
 marked_yes (a ∷ []) e = absurd (let z : ◌≡◌ {A = ℕ} 0 1 = cc in omega arith)
 marked_yes (a ∷ b ∷ s) e = rw (eq-eqb a (get_or mark 0 0) cc, eq-eqb b (get_or mark 1 0) cc)
 
--- and nowhere else
-pub marked_first : (s : List ℕ) → 2 ≤ length s → marked s ≡ true → take 2 s ≡ mark
-unfolding marked
-marked_first [] h e = absurd (omega arith)
-marked_first (a ∷ []) h e = absurd (omega arith)
-marked_first (a ∷ b ∷ s) h e = go (eqb a (get_or mark 0 0)) refl (eqb b (get_or mark 1 0)) refl e
-  where
-    go : (p : Bool) → eqb a (get_or mark 0 0) ≡ p → (q : Bool) → eqb b (get_or mark 1 0) ≡ q → p && q ≡ true → a ∷ b ∷ [] ≡ mark
-    go true f true g _ = cc (eqb-true a (get_or mark 0 0) f, eqb-true b (get_or mark 1 0) g)
-    go true f false g z = absurd (let z : ◌≡◌ {A = ℕ} 0 1 = cc in omega arith)
-    go false f q g z = absurd (let z : ◌≡◌ {A = ℕ} 0 1 = cc in omega arith)
-
--- a test that compares the first two bytes with the mark is the test for the mark
-pub marked_is : (s : List ℕ) (b : Bool) → 2 ≤ length s
-    → (b ≡ true → take 2 s ≡ mark) → (take 2 s ≡ mark → b ≡ true) → b ≡ marked s
-marked_is s true h to from = sym (marked_yes s (to refl))
-marked_is s false h to from = go (marked s) refl
-  where
-    go : (m : Bool) → marked s ≡ m → false ≡ m
-    go true e = from (marked_first s h e)
-    go false e = refl
-
 -- a kind's byte stands for the kind
-pub known : (k : Kind) (b : ℕ) → b ≡ kind_byte k → kind_of b ≡ Known k
+pub known : (k : Kind) (b : ℕ) → b ≡ kind_byte k → kind_of b ≡ Ok k
 unfolding kind_of
 known Open b e = rw e
 known Close b e = rw e
@@ -51,13 +30,7 @@ known Link b e = rw e
 known Unlink b e = rw e
 known Ask b e = rw e
 
--- a byte that is no kind's stands for none
-pub unknown : (b : ℕ) → ((k : Kind) → b ≡ kind_byte k → ⊥) → kind_of b ≡ Unknown
+-- a byte that is no kind's is refused with 12
+pub unknown : (b : ℕ) → ((k : Kind) → b ≡ kind_byte k → ⊥) → kind_of b ≡ Err WrongKind
 unfolding kind_of
 unknown b n = rw (ne_eqb _ _ (n Open), ne_eqb _ _ (n Close), ne_eqb _ _ (n Link), ne_eqb _ _ (n Unlink), ne_eqb _ _ (n Ask))
-
--- two bytes for the line and twice two for the trip number are the run
-pub run_of_lem : (s : List ℕ) (at line high low : ℕ) → line ≡ pair_at s at → high ≡ pair_at s (at + 2) → low ≡ pair_at s (at + 4)
-    → ◌≡◌ {A = Run} (record { line = line; trip = high * 65536 + low }) (run_at s at)
-unfolding run_at
-run_of_lem s at line high low a b d = rw (a, b, d)

@@ -5,14 +5,13 @@ use mathlib.Core.List.{List, [], ◌++◌}
 use mathlib.Core.Path.{◌≡◌, refl, sym, ap, ◌∙◌}
 use native.Mathlib.Omega.{arith}
 use lib.ListN.{length, get_or}
+use Rattle.std.specs.Prelude.{Some, Ok}
 use Rattle.terms.specs.Run.{line_most, no_run}
 use Rattle.terms.proofs.Names.{run_path, same_refl}
 use Rattle.terms.specs.declared.run.Run.{Run}
 use Rattle.record.specs.Bytes.{record_bytes, kind_of, run_bytes, RunFits, bytes_of, run_at}
 use Rattle.record.specs.Reading.{names_one, checked, reading_of}
 use Rattle.record.specs.declared.Record.{Record}
-use Rattle.record.specs.declared.reader.KindByte.TheVariants.{Known}
-use Rattle.record.specs.declared.reader.Reading.TheVariants.{Whole}
 use Rattle.record.proofs.Parts.{marked_yes, known}
 use Rattle.record.proofs.Readings.{two_runs, one_run, by_kind}
 
@@ -46,26 +45,26 @@ module _ (r : Record) (rest : List ℕ) where
   unfolding run_at
   second_back h = run_back r.second h
 
-  kind_back : kind_of (get_or (bytes_of r ++ rest) 2 0) ≡ Known r.kind
+  kind_back : kind_of (get_or (bytes_of r ++ rest) 2 0) ≡ Ok r.kind
   kind_back = known r.kind _ refl
 
 -- a record whose second run is zero where its kind names one run passes the check
-whole : (r : Record) → (names_one r.kind ≡ true → r.second ≡ no_run) → checked r.kind r.first r.second ≡ Whole r
+whole : (r : Record) → (names_one r.kind ≡ true → r.second ≡ no_run) → checked r.kind r.first r.second ≡ Ok r
 whole r z = go (names_one r.kind) refl
   where
-    go : (b : Bool) → names_one r.kind ≡ b → checked r.kind r.first r.second ≡ Whole r
+    go : (b : Bool) → names_one r.kind ≡ b → checked r.kind r.first r.second ≡ Ok r
     go true e = one_run _ _ _ e (rw (z e) (same_refl no_run))
     go false e = two_runs _ _ _ e
 
 -- a record that is written is read back, whatever stands after it and where nothing does
 pub round_trip : (r : Record) (rest : List ℕ) → RunFits r.first → RunFits r.second
-    → (names_one r.kind ≡ true → r.second ≡ no_run) → reading_of (bytes_of r ++ rest) ≡ Whole r
+    → (names_one r.kind ≡ true → r.second ≡ no_run) → reading_of (bytes_of r ++ rest) ≡ Some (Ok r)
 round_trip r rest a b z =
     by_kind (bytes_of r ++ rest) _ _ _ (omega arith) (marked_yes _ refl)
     (kind_back r rest)
     (sym (first_back r rest a))
     (sym (second_back r rest b))
-    ∙ whole r z
+    ∙ ap Some (whole r z)
 
 -- no two records have the same bytes
 pub one_record : (r s : Record) → RunFits r.first → RunFits r.second → RunFits s.first → RunFits s.second

@@ -1,12 +1,12 @@
 -- Document 01, "Day records": which bytes a record is.
-use Rattle.std.specs.Prelude.{ℕ, ◌+◌, ◌*◌, ◌/◌, ◌%◌, ◌^◌, ◌≤◌, ◌<◌, Bool, cond, ◌&&◌, List, [], ◌∷◌, ◌++◌, eqb, get_or}
+use Rattle.std.specs.Prelude.{ℕ, ◌+◌, ◌*◌, ◌/◌, ◌%◌, ◌^◌, ◌≤◌, ◌<◌, Bool, cond, ◌&&◌, List, [], ◌∷◌, ◌++◌, eqb, get_or, Result, Ok, Err}
 use Rattle.terms.specs.Run.{line_most}
+use Rattle.terms.specs.declared.refusal.Refusal.{Refusal}
+use Rattle.terms.specs.declared.refusal.Refusal.TheVariants.{WrongKind}
 use Rattle.terms.specs.declared.run.Run.{Run}
 use Rattle.record.specs.declared.Kind.{Kind}
 use Rattle.record.specs.declared.Kind.TheVariants.{Open, Close, Link, Unlink, Ask}
 use Rattle.record.specs.declared.Record.{Record}
-use Rattle.record.specs.declared.reader.KindByte.{KindByte}
-use Rattle.record.specs.declared.reader.KindByte.TheVariants.{Known, Unknown}
 
 -- fifteen bytes
 abbrev pub record_bytes : ℕ
@@ -53,14 +53,14 @@ bytes_of r = mark ++ (kind_byte r.kind ∷ (run_bytes r.first ++ run_bytes r.sec
 unfoldable pub marked : List ℕ → Bool
 marked s = eqb (get_or s 0 0) (get_or mark 0 0) && eqb (get_or s 1 0) (get_or mark 1 0)
 
--- what a kind byte stands for
-unfoldable pub kind_of : ℕ → KindByte
+-- what a kind byte stands for; a byte that is not 1 to 5 is refused with 12
+unfoldable pub kind_of : ℕ → Result Kind Refusal
 kind_of b =
-    cond (eqb b (kind_byte Open)) (Known Open)
-    (cond (eqb b (kind_byte Close)) (Known Close)
-    (cond (eqb b (kind_byte Link)) (Known Link)
-    (cond (eqb b (kind_byte Unlink)) (Known Unlink)
-    (cond (eqb b (kind_byte Ask)) (Known Ask) Unknown))))
+    cond (eqb b (kind_byte Open)) (Ok Open)
+    (cond (eqb b (kind_byte Close)) (Ok Close)
+    (cond (eqb b (kind_byte Link)) (Ok Link)
+    (cond (eqb b (kind_byte Unlink)) (Ok Unlink)
+    (cond (eqb b (kind_byte Ask)) (Ok Ask) (Err WrongKind)))))
 
 -- the number that two bytes are at a position, big-endian
 abbrev pub pair_at : List ℕ → ℕ → ℕ

@@ -1,15 +1,13 @@
 -- Document 01, "Day records" and "Refusal numbers": what stands first in the rest of a stream.
-use Rattle.std.specs.Prelude.{ℕ, Bool, true, false, not, cond, ◌&&◌, List, eqb, ltb, length, get_or}
+use Rattle.std.specs.Prelude.{ℕ, Bool, true, false, not, cond, ◌&&◌, List, eqb, ltb, length, get_or, Option, Some, None, Result, Ok, Err}
 use Rattle.terms.specs.Run.{no_run, same_run}
 use Rattle.terms.specs.declared.run.Run.{Run}
+use Rattle.terms.specs.declared.refusal.Refusal.{Refusal}
 use Rattle.terms.specs.declared.refusal.Refusal.TheVariants.{WrongMark, WrongKind, CutShort}
 use Rattle.record.specs.Bytes.{record_bytes, kind_at, first_at, second_at, marked, kind_of, run_at}
 use Rattle.record.specs.declared.Kind.{Kind}
 use Rattle.record.specs.declared.Kind.TheVariants.{Open, Close, Link, Unlink, Ask}
-use Rattle.record.specs.declared.reader.KindByte.{KindByte}
-use Rattle.record.specs.declared.reader.KindByte.TheVariants.{Known, Unknown}
-use Rattle.record.specs.declared.reader.Reading.{Reading}
-use Rattle.record.specs.declared.reader.Reading.TheVariants.{Whole, End, Refused}
+use Rattle.record.specs.declared.Record.{Record}
 
 -- kinds 1 and 2 name one run
 abbrev pub names_one : Kind → Bool
@@ -20,18 +18,21 @@ names_one Unlink = false
 names_one Ask = false
 
 -- the second run of kinds 1 and 2 is six zero bytes, else the record is refused with 12
-unfoldable pub checked : Kind → Run → Run → Reading
-checked k a b = cond (names_one k && not (same_run b no_run)) (Refused WrongKind) (Whole (record { kind = k; first = a; second = b }))
+unfoldable pub checked : Kind → Run → Run → Result Record Refusal
+checked k a b = cond (names_one k && not (same_run b no_run)) (Err WrongKind) (Ok (record { kind = k; first = a; second = b }))
 
--- a kind that is not 1 to 5 is refused with 12
-abbrev pub kinded : KindByte → Run → Run → Reading
-kinded (Known k) a b = checked k a b
-kinded Unknown a b = Refused WrongKind
+-- a kind that is not 1 to 5 stays refused; else the second run is judged
+abbrev pub kinded : Result Kind Refusal → Run → Run → Result Record Refusal
+kinded (Ok k) a b = checked k a b
+kinded (Err why) a b = Err why
 
--- no byte: the end; fewer than fifteen: 13; another mark: 11; then the kind and the second run: 12
-unfoldable pub reading_of : List ℕ → Reading
-reading_of s =
-    cond (eqb (length s) 0) End
-    (cond (ltb (length s) record_bytes) (Refused CutShort)
-    (cond (not (marked s)) (Refused WrongMark)
-    (kinded (kind_of (get_or s kind_at 0)) (run_at s first_at) (run_at s second_at))))
+-- fewer than fifteen bytes: 13; another mark: 11; then the kind and the second run: 12
+unfoldable pub record_of : List ℕ → Result Record Refusal
+record_of s =
+    cond (ltb (length s) record_bytes) (Err CutShort)
+    (cond (not (marked s)) (Err WrongMark)
+    (kinded (kind_of (get_or s kind_at 0)) (run_at s first_at) (run_at s second_at)))
+
+-- no byte: the end; else the record that stands first, or why it is refused
+unfoldable pub reading_of : List ℕ → Option (Result Record Refusal)
+reading_of s = cond (eqb (length s) 0) None (Some (record_of s))

@@ -6,13 +6,14 @@ pub mod reader;
 pub mod writer;
 
 ghost use Rattle.std.specs.Prelude.{◌≡◌};
-ghost use Rattle.record.specs.Bytes.{kind_byte};
+ghost use Rattle.record.specs.Bytes.{kind_byte, kind_of};
 ghost use Rattle.record.specs.Reading.{names_one};
 
+use terms::refusal::Refusal;
 use terms::run::Run;
 
 // What a record asks for.
-#[derive(Clone, Copy)]
+#[derive(Clone, Copy, PartialEq, Eq)]
 pub enum Kind {
     Open,
     Close,
@@ -33,10 +34,19 @@ impl Kind {
 
     pub const ASK: u8 = 5;
 
-    pub fn byte(self) -> u8
-        ensures { result ≡ kind_byte self }
+    // Whether a record of this kind names one run, so that its second run is zero.
+    pub fn names_one(self) -> bool
+        ensures { result ≡ names_one self }
     {
-        match self {
+        matches!(self, Kind::Open | Kind::Close)
+    }
+}
+
+impl From<Kind> for u8 {
+    ghost from_gives = { λ kind byte. byte ≡ kind_byte kind };
+
+    fn from(kind: Kind) -> u8 {
+        match kind {
             Kind::Open => Kind::OPEN,
             Kind::Close => Kind::CLOSE,
             Kind::Link => Kind::LINK,
@@ -44,23 +54,29 @@ impl Kind {
             Kind::Ask => Kind::ASK,
         }
     }
+}
 
-    // Whether a record of this kind names one run, so that its second run is zero.
-    pub fn names_one(self) -> bool
-        ensures { result ≡ names_one self }
-    {
-        match self {
-            Kind::Open => true,
-            Kind::Close => true,
-            Kind::Link => false,
-            Kind::Unlink => false,
-            Kind::Ask => false,
+// A byte that is no kind's gives the refusal of the record that it stands in.
+impl TryFrom<u8> for Kind {
+    type Error = Refusal;
+
+    ghost try_from_gives = { λ byte answer. answer ≡ kind_of byte };
+
+    #[tactic(auto, unfolding(crate::specs::Bytes::kind_of))]
+    fn try_from(byte: u8) -> Result<Kind, Refusal> {
+        match byte {
+            Kind::OPEN => Ok(Kind::Open),
+            Kind::CLOSE => Ok(Kind::Close),
+            Kind::LINK => Ok(Kind::Link),
+            Kind::UNLINK => Ok(Kind::Unlink),
+            Kind::ASK => Ok(Kind::Ask),
+            _ => Err(Refusal::WrongKind),
         }
     }
 }
 
 // Where the kind names one run, the second is line 0, trip 0.
-#[derive(Clone, Copy)]
+#[derive(Clone, Copy, PartialEq, Eq)]
 pub struct Record {
     pub kind: Kind,
     pub first: Run,

@@ -1,83 +1,41 @@
 // Reading: what stands first in the rest of a stream.
-ghost use Rattle.std.specs.Prelude.{◌+◌, ◌≤◌, ◌<◌, length, ◌≡◌};
-ghost use Rattle.record.specs.Bytes.{marked, pair_at, run_at, kind_of};
-ghost use Rattle.record.specs.Reading.{reading_of, checked};
+ghost use Rattle.std.specs.Prelude.{◌+◌, ◌≤◌, length, ◌≡◌};
+ghost use Rattle.record.specs.Bytes.{marked, run_at};
+ghost use Rattle.record.specs.Reading.{reading_of, record_of, checked};
 
 use crate::{Kind, Record};
 use terms::refusal::Refusal;
 use terms::run::Run;
 
-// What a kind byte stands for.
-#[derive(Clone, Copy)]
-pub enum KindByte {
-    Known(Kind),
-    Unknown,
-}
-
-// What stands first in the rest of a stream: a record, no byte more, or why it is no record.
-#[derive(Clone, Copy)]
-pub enum Reading {
-    Whole(Record),
-    End,
-    Refused(Refusal),
-}
-
-fn wide(b: u8) -> u32
-    ensures { (result ≡ b) × (result < 256) }
-{
-    b as u32
-}
-
-// The number that two bytes are at `at`, the high byte first.
-fn pair_at(s: &[u8], at: usize) -> u32
-    requires { at + 2 ≤ length s.now }
-    ensures { (result ≡ pair_at s.now at) × (result < 65536) }
-{
-    wide(s[at]) * 256 + wide(s[at + 1])
-}
-
-// A run's line and trip number, which stand at `at`.
+// A run's line and trip number, which stand at `at`, the high byte first.
+#[tactic(auto, unfolding(crate::specs::Bytes::run_at))]
 fn run_at(s: &[u8], at: usize) -> Run
     requires { at + 6 ≤ length s.now }
     ensures { result ≡ run_at s.now at }
 {
     Run {
-        line: pair_at(s, at),
-        trip: pair_at(s, at + 2) * 65536 + pair_at(s, at + 4),
+        line: u32::from(u16::from_be_bytes([s[at], s[at + 1]])),
+        trip: u32::from_be_bytes([s[at + 2], s[at + 3], s[at + 4], s[at + 5]]),
     }
 }
 
 // Whether the two-byte mark stands first.
+#[tactic(auto, unfolding(crate::specs::Bytes::marked))]
 fn is_marked(s: &[u8]) -> bool
-    requires { 2 ≤ length s.now }
     ensures { result ≡ marked s.now }
 {
-    check::same(&s[..2], &Record::MARK)
-}
-
-fn kind_of(b: u8) -> KindByte
-    ensures { result ≡ kind_of b }
-{
-    match b {
-        Kind::OPEN => KindByte::Known(Kind::Open),
-        Kind::CLOSE => KindByte::Known(Kind::Close),
-        Kind::LINK => KindByte::Known(Kind::Link),
-        Kind::UNLINK => KindByte::Known(Kind::Unlink),
-        Kind::ASK => KindByte::Known(Kind::Ask),
-        _ => KindByte::Unknown,
-    }
+    s.starts_with(&Record::MARK)
 }
 
 // A kind that names one run leaves the second run's bytes zero: whatever else stands there is refused.
-fn checked_record(kind: Kind, first: Run, second: Run) -> Reading
+#[tactic(auto, unfolding(crate::specs::Reading::checked, terms::specs::Run::same_run))]
+fn checked_record(kind: Kind, first: Run, second: Run) -> Result<Record, Refusal>
     ensures { result ≡ checked kind first second }
 {
-    if kind.names_one() {
-        if !second.is(Run { line: 0, trip: 0 }) {
-            return Reading::Refused(Refusal::WrongKind);
-        }
+    if kind.names_one() && second != Run::default() {
+        return Err(Refusal::WrongKind);
     }
-    Reading::Whole(Record {
+    Ok(Record {
         kind,
         first,
         second,
@@ -85,24 +43,31 @@ fn checked_record(kind: Kind, first: Run, second: Run) -> Reading
 }
 
 // The bytes are judged in the order of the refusals: too few of them, the mark, the kind and the second run.
-pub fn read(rest: &[u8]) -> Reading
-    ensures { result ≡ reading_of rest.now }
+#[tactic(auto, unfolding(crate::specs::Reading::record_of))]
+fn first_record(bytes: &[u8]) -> Result<Record, Refusal>
+    ensures { result ≡ record_of bytes.now }
 {
-    if rest.len() == 0 {
-        return Reading::End;
+    if bytes.len() < Record::BYTES {
+        return Err(Refusal::CutShort);
     }
-    if rest.len() < Record::BYTES {
-        return Reading::Refused(Refusal::CutShort);
+    if !is_marked(bytes) {
+        return Err(Refusal::WrongMark);
     }
-    if !is_marked(rest) {
-        return Reading::Refused(Refusal::WrongMark);
-    }
-    let KindByte::Known(kind) = kind_of(rest[Record::KIND_AT]) else {
-        return Reading::Refused(Refusal::WrongKind);
-    };
+    let kind = Kind::try_from(bytes[Record::KIND_AT])?;
     checked_record(
         kind,
-        run_at(rest, Record::FIRST_AT),
-        run_at(rest, Record::SECOND_AT),
+        run_at(bytes, Record::FIRST_AT),
+        run_at(bytes, Record::SECOND_AT),
     )
+}
+
+// None where no byte is left, else the record that stands first or why it is none.
+#[tactic(auto, unfolding(crate::specs::Reading::reading_of))]
+pub fn read(rest: &[u8]) -> Option<Result<Record, Refusal>>
+    ensures { result ≡ reading_of rest.now }
+{
+    if rest.is_empty() {
+        return None;
+    }
+    Some(first_record(rest))
 }

@@ -4,8 +4,8 @@ use Prim.Native.Nat.{ℕ}
 use mathlib.Core.List.{List}
 use mathlib.Core.Path.{◌≡◌, sym, ap, ◌∙◌}
 use Rattle.terms.specs.declared.refusal.Refusal.{Refusal}
-use Rattle.terms.specs.declared.refusal.Answer.{Answer}
-use Rattle.terms.specs.declared.refusal.Answer.TheVariants.{Refused}
+use Rattle.terms.specs.Refusal.{Answer}
+use Rattle.std.specs.Prelude.{Err}
 use Rattle.meaning.specs.Soundness.{Sound}
 use Rattle.meaning.specs.Day.{day_of}
 use Rattle.meaning.specs.Calls.{Call, Outcome, refused, call}
@@ -17,16 +17,12 @@ use Rattle.meaning.proofs.Threaded.{Threaded, sound_threaded}
 use Rattle.table.specs.Within.{Within}
 use Rattle.find.proofs.Finding.{threaded_within}
 
--- a sound table's words may be read
-pub sound_within : (n C D : ℕ) (w : List ℕ) → Sound n C D w → Within n C w
-sound_within n C D w s = threaded_within n C w (sound_threaded n C D w s)
-
 -- a threaded table that holds a right day is sound
 pub threaded_sound : (n C D : ℕ) (w w' : List ℕ) → Sound n C D w → Threaded n C w' → Right n D (day_of n C w') → Sound n C D w'
 threaded_sound n C D w w' s T r = right_sound n C D w' s.sized.limit T.room T.long T.reaches T.whole T.freed r
 
 module _ (n C D : ℕ) (q : Call) (w : List ℕ) (s : Sound n C D w) where
-  pub refuses : (why : Refusal) → call D (day_of n C w) q ≡ refused why (day_of n C w) → Carries n C D q w (Refused why) w
+  pub refuses : (why : Refusal) → call D (day_of n C w) q ≡ refused why (day_of n C w) → Carries n C D q w (Err why) w
   refuses why e = record {
     answer = sym (ap (λ (o : Outcome). o.answer) e);
     holds = record { sound = s; day = sym (ap (λ (o : Outcome). o.after) e) };

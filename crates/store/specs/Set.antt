@@ -1,5 +1,5 @@
--- Words for a set of places: which are marked, and what their lists add up to.
-use Rattle.std.specs.Prelude.{ℕ, ◌+◌, ◌<◌, List, [], ◌∷◌, ◌≡◌, length, get_or}
+-- Words for a set of places: which are marked, and what a list's targets add up to.
+use Rattle.std.specs.Prelude.{ℕ, ◌<◌, List, ◌≡◌, length, get_or}
 use Rattle.meaning.specs.Cells.{Cell, row_sum}
 use Rattle.meaning.specs.Calls.{in_set}
 
@@ -15,8 +15,3 @@ pub record Marks (m : ℕ) (ps marks : List ℕ) : Type 0 where
 -- the marks of a list's targets, added up
 abbrev pub marked : List ℕ → List Cell → ℕ
 marked marks l = row_sum (λ c. get_or marks c.target 0) l
-
--- a number of each place of a set, added up
-abbrev pub total : (ℕ → ℕ) → List ℕ → ℕ
-total f [] = 0
-total f (p ∷ ps) = f p + total f ps

@@ -5,43 +5,43 @@ ghost use Rattle.meaning.specs.Soundness.{Sound};
 
 use find::touch;
 use table::step;
+use table::view::Table;
 use terms::refusal::{Answer, Refusal};
 use terms::run::Run;
+use terms::size::Sizes;
 
 // The run takes the lowest free place, whose number is the answer.
-pub fn open(store: &mut [u32], n: usize, c: usize, d: usize, run: Run) -> Answer
-    requires { Sound n c d store.old }
-    ensures { Carries n c d (open_run run) store.old result store.new }
+pub fn open(store: &mut [u32], sizes: Sizes, run: Run) -> Answer
+    requires { Sound sizes.room.n sizes.room.c sizes.limit.d store.old }
+    ensures { Carries sizes.room.n sizes.room.c sizes.limit.d (open_run run) store.old result store.new }
 {
+    let room = sizes.room;
+    let table = Table { words: store, room };
     if run.is_bad() {
-        return Answer::Refused(Refusal::BadName);
+        return Err(Refusal::BadName);
     }
-    if find::place(store, n, c, run) < n {
-        return Answer::Refused(Refusal::Already);
+    if find::place(table, run).is_some() {
+        return Err(Refusal::Already);
     }
-    let v = find::free_place(store, n, c);
-    if n <= v {
-        return Answer::Refused(Refusal::NoRoom);
-    }
-    step::rename(store, n, c, v, run);
-    Answer::Done(v as u64)
+    let v = find::free_place(table).ok_or(Refusal::NoRoom)?;
+    step::rename(store, room, v, run);
+    Ok(v as u64)
 }
 
 // The run's place becomes free, if no link touches it.
-pub fn close(store: &mut [u32], n: usize, c: usize, d: usize, run: Run) -> Answer
-    requires { Sound n c d store.old }
-    ensures { Carries n c d (close_run run) store.old result store.new }
+pub fn close(store: &mut [u32], sizes: Sizes, run: Run) -> Answer
+    requires { Sound sizes.room.n sizes.room.c sizes.limit.d store.old }
+    ensures { Carries sizes.room.n sizes.room.c sizes.limit.d (close_run run) store.old result store.new }
 {
+    let room = sizes.room;
+    let table = Table { words: store, room };
     if run.is_bad() {
-        return Answer::Refused(Refusal::BadName);
+        return Err(Refusal::BadName);
     }
-    let v = find::place(store, n, c, run);
-    if n <= v {
-        return Answer::Refused(Refusal::NotOpen);
+    let v = find::place(table, run).ok_or(Refusal::NotOpen)?;
+    if touch::touched(table, v) {
+        return Err(Refusal::Touched);
     }
-    if touch::touched(store, n, c, v) {
-        return Answer::Refused(Refusal::Touched);
-    }
-    step::rename(store, n, c, v, Run { line: 0, trip: 0 });
-    Answer::Done(0)
+    step::rename(store, room, v, Run::default());
+    Ok(0)
 }

@@ -1,5 +1,4 @@
 -- Laws for the stream.
-pub mod Forwards
 pub mod Carrying
 pub mod Stepping
 pub mod Streaming

@@ -6,8 +6,8 @@ use native.Mathlib.Omega.{arith}
 use Rattle.terms.specs.Refusal.{number_of, refusal_of, value_of}
 use Rattle.terms.specs.Run.{no_run}
 use Rattle.terms.specs.declared.run.Run.{Run}
-use Rattle.terms.specs.declared.refusal.Answer.{Answer}
-use Rattle.terms.specs.declared.refusal.Answer.TheVariants.{Done, Refused}
+use Rattle.terms.specs.Refusal.{Answer}
+use Rattle.std.specs.Prelude.{Ok, Err}
 use Rattle.terms.specs.declared.refusal.Refusal.{Refusal}
 use Rattle.terms.specs.declared.refusal.Refusal.TheVariants.{Sizes, Unsound, BadName, SameRun, NotOpen, Already, NoLink, NoRoom, TooDense, Touched, WrongMark, WrongKind, CutShort, BadSet}
 use Rattle.record.specs.declared.Kind.{Kind}
@@ -35,8 +35,8 @@ number_most CutShort = omega arith
 number_most BadSet = omega arith
 
 pub refusal_most : (a : Answer) → refusal_of a ≤ 14
-refusal_most (Done k) = omega arith
-refusal_most (Refused why) = number_most why
+refusal_most (Ok k) = omega arith
+refusal_most (Err why) = number_most why
 
 -- what counts does not hang on the runs
 same_taken : (k : Kind) (p q : Run) (a : Answer) → taken (asks_for k no_run no_run) a ≡ taken (asks_for k p q) a
@@ -56,8 +56,8 @@ same_reversed Ask p q a = refl
 taken_most : (k : Kind) (p q : Run) (a : Answer) → taken (asks_for k p q) a ≤ 1
 taken_most Open p q a = omega arith
 taken_most Close p q a = omega arith
-taken_most Link p q (Done r) = omega arith
-taken_most Link p q (Refused why) = omega arith
+taken_most Link p q (Ok r) = omega arith
+taken_most Link p q (Err why) = omega arith
 taken_most Unlink p q a = omega arith
 taken_most Ask p q a = omega arith
 

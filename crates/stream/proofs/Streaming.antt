@@ -2,19 +2,16 @@
 use Prim.Native.Nat.{ℕ, zero, suc, ◌+◌, ◌-◌, ◌*◌, ◌/◌, ◌^◌, ◌≤◌, ◌<◌}
 use mathlib.Core.Bool.{Bool, true, false}
 use mathlib.Core.List.{List, [], ◌∷◌}
-use mathlib.Core.Option.{Option, none, some}
+use Rattle.std.specs.Prelude.{Option, None, Some, Result, Ok, Err}
 use mathlib.Core.Path.{◌≡◌, refl, sym, ap, subst, ◌∙◌}
 use native.Mathlib.Decide.{ℕ_discrete}
 use native.Mathlib.Omega.{arith}
-use lib.ListN.{length, take, drop, length-drop, length-replicate}
-use lib.Seq.{take_all, drop-drop}
+use lib.ListN.{length, drop, length-drop, length-replicate}
 use Rattle.terms.specs.Size.{store_words, waiting_words, stream_most}
 use Rattle.terms.specs.declared.refusal.Refusal.{Refusal}
 use Rattle.record.specs.Bytes.{record_bytes}
 use Rattle.record.specs.Reading.{reading_of}
 use Rattle.record.specs.declared.Record.{Record}
-use Rattle.record.specs.declared.reader.Reading.{Reading}
-use Rattle.record.specs.declared.reader.Reading.TheVariants.{Whole, End, Refused}
 use Rattle.record.proofs.Readings.{at_end, whole_long}
 use Rattle.meaning.specs.Soundness.{Sound}
 use Rattle.meaning.specs.Day.{Day, day_of}
@@ -27,38 +24,37 @@ use Rattle.stream.specs.declared.totals.Totals.{Totals}
 
 -- ---- reading on
 module _ (s : List ℕ) where
-  pub refused_some : (why : Refusal) → reading_of s ≡ Refused why → 0 < length s
+  pub refused_some : (why : Refusal) → reading_of s ≡ Some (Err why) → 0 < length s
   refused_some why e = elim (ℕ_discrete (length s) 0) [
     | yes z ↦ let a = at_end s z in let q : ◌≡◌ {A = ℕ} 0 1 = cc in absurd (omega arith)
     | no z ↦ omega (arith, z)
   ]
 
-  read_end : (k : ℕ) → reading_of s ≡ End → read_all k s ≡ record { records = []; stop = none }
+  read_end : (k : ℕ) → reading_of s ≡ None → read_all k s ≡ record { records = []; stop = None }
   unfolding read_all
   read_end zero e = refl
-  read_end (suc k) e = ap (λ (x : Reading). read_on x (read_all k (drop record_bytes s))) e
+  read_end (suc k) e = ap (λ (x : Option (Result Record Refusal)). read_on x (read_all k (drop record_bytes s))) e
 
-  read_stop : (k : ℕ) (why : Refusal) → 0 < k → reading_of s ≡ Refused why → read_all k s ≡ record { records = []; stop = some why }
+  read_stop : (k : ℕ) (why : Refusal) → 0 < k → reading_of s ≡ Some (Err why) → read_all k s ≡ record { records = []; stop = Some why }
   unfolding read_all
   read_stop zero why h e = absurd (omega arith)
-  read_stop (suc k) why h e = ap (λ (x : Reading). read_on x (read_all k (drop record_bytes s))) e
+  read_stop (suc k) why h e = ap (λ (x : Option (Result Record Refusal)). read_on x (read_all k (drop record_bytes s))) e
 
-  read_on_lem : (k j : ℕ) (r : Record) → k ≡ suc j → reading_of s ≡ Whole r
+  read_on_lem : (k j : ℕ) (r : Record) → k ≡ suc j → reading_of s ≡ Some (Ok r)
       → read_all k s ≡ record { records = r ∷ (read_all j (drop record_bytes s)).records; stop = (read_all j (drop record_bytes s)).stop }
   unfolding read_all
-  read_on_lem k j r h e = ap (λ (i : ℕ). read_all i s) h ∙ ap (λ (x : Reading). read_on x (read_all j (drop record_bytes s))) e
+  read_on_lem k j r h e = ap (λ (i : ℕ). read_all i s) h ∙ ap (λ (x : Option (Result Record Refusal)). read_on x (read_all j (drop record_bytes s))) e
 
 -- ---- where the stream stands; `turned` is the day as at entry of the last link that began turning
 abbrev pub reached : ℕ → ℕ → List ℕ → List ℕ → ℕ → Totals → Option Day → Progress
 reached n C store answers carried t turned =
     record { day = day_of n C store; answers = answers; carried = carried; accepted = t.accepted; reversals = t.reversals; turned = turned }
 
-pub record Going (n C D : ℕ) (bytes : List ℕ) (t₀ : Tables) (store spare waiting answers : List ℕ) (at carried : ℕ) (t : Totals) : Type 0 where
+pub record Going (n C D : ℕ) (bytes : List ℕ) (t₀ : Tables) (store spare waiting answers rest : List ℕ) (carried : ℕ) (t : Totals) : Type 0 where
   pub turned : Option Day
   pub lent : Lent n C D store spare waiting
   pub sound : Sound n C D store
-  pub place : at ≡ record_bytes * carried
-  pub within : at ≤ length bytes
+  pub left : length rest + record_bytes * carried ≡ length bytes
   pub short : length bytes ≤ stream_most
   pub room : length answers ≡ length t₀.answers
   pub long : 2 * (length bytes / record_bytes) ≤ length answers
@@ -66,19 +62,18 @@ pub record Going (n C D : ℕ) (bytes : List ℕ) (t₀ : Tables) (store spare w
   pub waited : waiting ≡ waiting_then n turned t₀.waiting
   pub accepted : t.accepted ≤ 2 ^ 62 + carried
   pub reversals : t.reversals ≤ 2 ^ 62 + 2 ^ 32 * carried
-  pub same : carry_all D (read_all (length bytes - carried) (drop at bytes)).records (reached n C store answers carried t turned) ≡ progress n C D bytes t₀
-  pub stop : (read_all (length bytes - carried) (drop at bytes)).stop ≡ (records_of bytes).stop
+  pub same : carry_all D (read_all (length bytes - carried) rest).records (reached n C store answers carried t turned) ≡ progress n C D bytes t₀
+  pub stop : (read_all (length bytes - carried) rest).stop ≡ (records_of bytes).stop
 
 pub going_start : (n C D : ℕ) (bytes store spare waiting answers : List ℕ) (t : Totals) → StreamLent n C D bytes (tables store spare waiting answers t) → Sound n C D store
-    → Going n C D bytes (tables store spare waiting answers t) store spare waiting answers 0 0 t
+    → Going n C D bytes (tables store spare waiting answers t) store spare waiting answers bytes 0 t
 going_start n C D bytes store spare waiting answers t l s =
     let z : length bytes - 0 ≡ length bytes = omega arith in
     record {
-      turned = none;
+      turned = None;
       lent = l.lent;
       sound = s;
-      place = refl;
-      within = omega arith;
+      left = omega arith;
       short = l.short;
       room = refl;
       long = l.answers_long;
@@ -90,34 +85,28 @@ going_start n C D bytes store spare waiting answers t l s =
       stop = rw z;
     }
 
-module _ (n C D : ℕ) (bytes : List ℕ) (t₀ : Tables) (store spare waiting answers : List ℕ) (at carried : ℕ) (t : Totals)
-    (g : Going n C D bytes t₀ store spare waiting answers at carried t) (s : List ℕ) (es : s ≡ take (length bytes - at) (drop at bytes)) where
-  rest_is : s ≡ drop at bytes
-  rest_is = es ∙ take_all (length bytes - at) (drop at bytes) (rw length-drop (omega arith))
+module _ (n C D : ℕ) (bytes : List ℕ) (t₀ : Tables) (store spare waiting answers rest : List ℕ) (carried : ℕ) (t : Totals)
+    (g : Going n C D bytes t₀ store spare waiting answers rest carried t) (o : Option (Result Record Refusal)) (eo : o ≡ reading_of rest) where
+  module _ (r : Record) (er : o ≡ Some (Ok r)) where
+    whole : reading_of rest ≡ Some (Ok r)
+    whole = sym eo ∙ er
 
-  rest_long : length s ≡ length bytes - at
-  rest_long = ap length rest_is ∙ length-drop at bytes
-
-  module _ (r : Record) (o : Reading) (eo : o ≡ reading_of s) (er : o ≡ Whole r) where
-    whole : reading_of (drop at bytes) ≡ Whole r
-    whole = ap reading_of (sym rest_is) ∙ (sym eo ∙ er)
-
-    one_more : at + record_bytes ≤ length bytes
-    one_more = omega (arith, whole_long (drop at bytes) r whole, length-drop at bytes, g.within)
+    one_more : record_bytes ≤ length rest
+    one_more = whole_long rest r whole
 
     pub going_step : StepOk n C D store spare waiting answers carried t
     going_step = record {
       lent = g.lent;
       sound = g.sound;
-      room = omega (arith, one_more, g.place, g.long);
-      accepted = omega (arith, g.accepted, one_more, g.place, g.short);
-      reversals = omega (arith, g.reversals, one_more, g.place, g.short);
+      room = omega (arith, one_more, g.left, g.long);
+      accepted = omega (arith, g.accepted, one_more, g.left, g.short);
+      reversals = omega (arith, g.reversals, one_more, g.left, g.short);
     }
 
-    pub going_few : (carried < 65535) × (at + record_bytes ≤ length bytes)
-    going_few = (omega (arith, one_more, g.place, g.short), one_more)
+    pub going_few : (carried < 65535) × (record_bytes ≤ length rest)
+    going_few = (omega (arith, one_more, g.left, g.short), one_more)
 
-    module _ (store' spare' waiting' answers' : List ℕ) (t' : Totals)
+    module _ (store' spare' waiting' answers' rest' : List ℕ) (t' : Totals) (on : rest' ≡ drop record_bytes rest)
         (h : Stepped n C D r store spare waiting answers carried t store' spare' waiting' answers' t') where
       turned' : Option Day
       turned' = latest (outcome n C D r store).began (day_of n C store) g.turned
@@ -150,17 +139,17 @@ module _ (n C D : ℕ) (bytes : List ℕ) (t₀ : Tables) (store spare waiting a
       }
 
       fuel : length bytes - carried ≡ suc (length bytes - (carried + 1))
-      fuel = omega (arith, one_more, g.place)
+      fuel = omega (arith, one_more, g.left)
 
-      step_read : read_all (length bytes - carried) (drop at bytes)
-          ≡ record { records = r ∷ (read_all (length bytes - (carried + 1)) (drop (at + record_bytes) bytes)).records; stop = (read_all (length bytes - (carried + 1)) (drop (at + record_bytes) bytes)).stop }
-      step_read = rw (← drop-drop record_bytes at bytes) (read_on_lem (drop at bytes) (length bytes - carried) (length bytes - (carried + 1)) r fuel whole)
+      step_read : read_all (length bytes - carried) rest
+          ≡ record { records = r ∷ (read_all (length bytes - (carried + 1)) rest').records; stop = (read_all (length bytes - (carried + 1)) rest').stop }
+      step_read = rw on (read_on_lem rest (length bytes - carried) (length bytes - (carried + 1)) r fuel whole)
 
-      pub going_next : Going n C D bytes t₀ store' spare' waiting' answers' (at + record_bytes) (carried + 1) t'
+      pub going_next : Going n C D bytes t₀ store' spare' waiting' answers' rest' (carried + 1) t'
       unfolding carry_all turned'
       going_next =
-          let next : List Record = (read_all (length bytes - (carried + 1)) (drop (at + record_bytes) bytes)).records in
-          let eq : carry_all D (read_all (length bytes - carried) (drop at bytes)).records (reached n C store answers carried t g.turned)
+          let next : List Record = (read_all (length bytes - (carried + 1)) rest').records in
+          let eq : carry_all D (read_all (length bytes - carried) rest).records (reached n C store answers carried t g.turned)
           ≡ carry_all D next (reached n C store' answers' (carried + 1) t' turned')
           = ap (λ (x : DayRecords). carry_all D x.records (reached n C store answers carried t g.turned)) step_read ∙ ap (carry_all D next) forward in
           record {
@@ -171,8 +160,7 @@ module _ (n C D : ℕ) (bytes : List ℕ) (t₀ : Tables) (store spare waiting a
               waiting_long = waiting_long' (outcome n C D r store).began h.waited;
             };
             sound = h.holds.sound;
-            place = omega (arith, g.place);
-            within = one_more;
+            left = omega (arith, g.left, one_more, ap length on, length-drop record_bytes rest);
             short = g.short;
             room = long_answers ∙ g.room;
             long = omega (arith, g.long, long_answers);
@@ -188,7 +176,7 @@ module _ (n C D : ℕ) (bytes : List ℕ) (t₀ : Tables) (store spare waiting a
           long_answers = ap length h.answers_are ∙ (simp written_length)
 
   -- ---- the two ways out
-  module _ (o : Reading) (eo : o ≡ reading_of s) (st : Option Refusal) (er : read_all (length bytes - carried) (drop at bytes) ≡ record { records = []; stop = st }) where
+  module _ (st : Option Refusal) (er : read_all (length bytes - carried) rest ≡ record { records = []; stop = st }) where
     done : reached n C store answers carried t g.turned ≡ progress n C D bytes t₀
     unfolding carry_all
     done = sym (ap (λ (x : DayRecords). carry_all D x.records (reached n C store answers carried t g.turned)) er) ∙ g.same
@@ -205,15 +193,11 @@ module _ (n C D : ℕ) (bytes : List ℕ) (t₀ : Tables) (store spare waiting a
       reversals = ap (λ (p : Progress). p.reversals) done;
     }
 
-  module _ (o : Reading) (eo : o ≡ reading_of s) where
-    at_drop : o ≡ reading_of (drop at bytes)
-    at_drop = eo ∙ ap reading_of rest_is
+  pub going_end : o ≡ None → StreamCarries n C D bytes t₀ (record { stop = None; carried = carried }) (tables store spare waiting answers t)
+  going_end e = ended None (read_end rest (length bytes - carried) (sym eo ∙ e))
 
-    pub going_end : o ≡ End → StreamCarries n C D bytes t₀ (record { stop = none; carried = carried }) (tables store spare waiting answers t)
-    going_end e = ended o eo none (read_end (drop at bytes) (length bytes - carried) (sym at_drop ∙ e))
-
-    pub going_stop : (why : Refusal) → o ≡ Refused why → StreamCarries n C D bytes t₀ (record { stop = some why; carried = carried }) (tables store spare waiting answers t)
-    going_stop why e =
-        let q : reading_of (drop at bytes) ≡ Refused why = sym at_drop ∙ e in
-        let z : 0 < length bytes - carried = omega (arith, refused_some (drop at bytes) why q, length-drop at bytes, g.place, g.within) in
-        ended o eo (some why) (read_stop (drop at bytes) (length bytes - carried) why z q)
+  pub going_stop : (why : Refusal) → o ≡ Some (Err why) → StreamCarries n C D bytes t₀ (record { stop = Some why; carried = carried }) (tables store spare waiting answers t)
+  going_stop why e =
+      let q : reading_of rest ≡ Some (Err why) = sym eo ∙ e in
+      let z : 0 < length bytes - carried = omega (arith, refused_some rest why q, g.left) in
+      ended (Some why) (read_stop rest (length bytes - carried) why z q)

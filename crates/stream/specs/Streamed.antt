@@ -1,23 +1,15 @@
 -- The stream's answer in the meaning's terms.
-use Rattle.std.specs.Prelude.{ℕ, ◌*◌, ◌/◌, ◌≤◌, List, ◌≡◌}
-use Rattle.std.proofs.Math.Option.{Option, none, some}
+use Rattle.std.specs.Prelude.{ℕ, ◌*◌, ◌/◌, ◌≤◌, List, ◌≡◌, Some}
 use Rattle.terms.specs.Size.{stream_most, total_most}
 use Rattle.record.specs.Bytes.{record_bytes}
 use Rattle.terms.specs.declared.refusal.Refusal.{Refusal}
 use Rattle.meaning.specs.Promise.{Tables, Result}
-use Rattle.stream.specs.declared.Stop.{Stop}
-use Rattle.stream.specs.declared.Stop.TheVariants.{End, At}
 use Rattle.stream.specs.declared.Streamed.{Streamed}
 use Rattle.stream.specs.declared.totals.Totals.{Totals}
 
--- 0 at the end of the bytes: no refusal
-abbrev pub stop_of : Stop → Option Refusal
-stop_of End = none
-stop_of (At why) = some why
-
 -- what it returns
 abbrev pub result_of : Streamed → Result
-result_of r = record { stop = stop_of r.stop; carried = r.carried }
+result_of r = record { stop = r.stop; carried = r.carried }
 
 -- the lent tables and the totals
 abbrev pub tables : List ℕ → List ℕ → List ℕ → List ℕ → Totals → Tables
@@ -35,6 +27,6 @@ pub record Fitting (n store spare waiting bytes answers : ℕ) (t : Totals) : Ty
 
 -- a stream refused as a whole
 pub record Stopped (why : Refusal) (t : Totals) (r : Streamed) : Type 0 where
-  pub stop : r.stop ≡ At why
+  pub stop : r.stop ≡ Some why
   pub carried : r.carried ≡ 0
   pub totals : r.totals ≡ t

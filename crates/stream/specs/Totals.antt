@@ -2,7 +2,7 @@
 use Rattle.std.specs.Prelude.{◌+◌, ◌^◌, ◌<◌, ◌≡◌}
 use Rattle.terms.specs.Refusal.{value_of}
 use Rattle.terms.specs.Run.{no_run}
-use Rattle.terms.specs.declared.refusal.Answer.{Answer}
+use Rattle.terms.specs.Refusal.{Answer}
 use Rattle.record.specs.declared.Kind.{Kind}
 use Rattle.meaning.specs.Stream.{asks_for, taken, reversed}
 use Rattle.stream.specs.declared.totals.Totals.{Totals}

@@ -9,30 +9,26 @@ ghost use Rattle.stream.specs.Carry.{Carried, StepOk, Stepped};
 use crate::totals::Totals;
 use record::{Kind, Record};
 use store::{link, run};
-use terms::refusal::Answer;
+use terms::refusal::{Answer, refusal_of, value_of};
+use terms::size::Sizes;
 
-// The single call that the record asks for.
+// The single call that the record asks for: the kinds are five, and each has its own tables.
 pub fn carry(
     store: &mut [u32],
     spare: &mut [u32],
     waiting: &mut [u32],
-    n: usize,
-    c: usize,
-    d: usize,
+    sizes: Sizes,
     rec: Record,
 ) -> Answer
-    requires { Lent n c d store.old spare.old waiting.old × Sound n c d store.old }
-    ensures { Carried n c d (call_of rec) store.old spare.old waiting.old result store.new spare.new waiting.new }
+    requires { Lent sizes.room.n sizes.room.c sizes.limit.d store.old spare.old waiting.old × Sound sizes.room.n sizes.room.c sizes.limit.d store.old }
+    ensures { Carried sizes.room.n sizes.room.c sizes.limit.d (call_of rec) store.old spare.old waiting.old result store.new spare.new waiting.new }
 {
-    let kind = rec.kind;
-    let first = rec.first;
-    let second = rec.second;
-    match kind {
-        Kind::Open => run::open(store, n, c, d, first),
-        Kind::Close => run::close(store, n, c, d, first),
-        Kind::Link => link::link(store, spare, waiting, n, c, d, first, second),
-        Kind::Unlink => link::unlink(store, n, c, d, first, second),
-        Kind::Ask => link::ask(store, n, c, d, first, second),
+    match rec.kind {
+        Kind::Open => run::open(store, sizes, rec.first),
+        Kind::Close => run::close(store, sizes, rec.first),
+        Kind::Link => link::link(store, spare, waiting, sizes, rec.first, rec.second),
+        Kind::Unlink => link::unlink(store, sizes, rec.first, rec.second),
+        Kind::Ask => link::ask(store, sizes, rec.first, rec.second),
     }
 }
 
@@ -41,10 +37,8 @@ fn put_answer(answers: &mut [u32], position: usize, answer: Answer)
     requires { (2 * position + 1 < length answers.old) × (value_of answer < 2 ^ 32) }
     ensures { answers.new ≡ answered answers.old position answer }
 {
-    let refusal = answer.refusal();
-    let number = answer.value();
-    answers[2 * position] = refusal as u32;
-    answers[2 * position + 1] = number as u32;
+    answers[2 * position] = refusal_of(answer) as u32;
+    answers[2 * position + 1] = value_of(answer) as u32;
 }
 
 // One record: its call, its answer words and the totals, by value in and by value out.
@@ -53,18 +47,15 @@ pub fn step(
     spare: &mut [u32],
     waiting: &mut [u32],
     answers: &mut [u32],
-    n: usize,
-    c: usize,
-    d: usize,
+    sizes: Sizes,
     rec: Record,
     position: usize,
     totals: Totals,
 ) -> Totals
-    requires { StepOk n c d store.old spare.old waiting.old answers.old position totals }
-    ensures { Stepped n c d rec store.old spare.old waiting.old answers.old position totals store.new spare.new waiting.new answers.new result }
+    requires { StepOk sizes.room.n sizes.room.c sizes.limit.d store.old spare.old waiting.old answers.old position totals }
+    ensures { Stepped sizes.room.n sizes.room.c sizes.limit.d rec store.old spare.old waiting.old answers.old position totals store.new spare.new waiting.new answers.new result }
 {
-    let answer = carry(store, spare, waiting, n, c, d, rec);
+    let answer = carry(store, spare, waiting, sizes, rec);
     put_answer(answers, position, answer);
-    let kind = rec.kind;
-    totals.forward(kind, answer)
+    totals.forward(rec.kind, answer)
 }

@@ -8,69 +8,59 @@ pub mod totals;
 ghost use Rattle.std.specs.Prelude.{◌+◌, ◌<◌, ◌≡◌};
 ghost use Rattle.meaning.specs.Promise.{StreamLent, StreamCarries, StreamPromise, stop_number};
 ghost use Rattle.meaning.specs.Soundness.{Sound};
-ghost use Rattle.stream.specs.Streamed.{tables, stop_of, result_of, Fitting, Stopped};
+ghost use Rattle.stream.specs.Streamed.{tables, result_of, Fitting, Stopped};
 ghost use Rattle.terms.specs.Tells.{Tells};
 
 use carry::step;
-use judge::Verdict;
-use record::reader::Reading;
 use record::{Record, reader};
 use terms::refusal::Refusal;
-use terms::size::{Length, Measured};
+use terms::size::{Length, Sizes};
 use totals::Totals;
 
-// Where a stream ended: at the end of its bytes, or at a record that is none.
-#[derive(Clone, Copy)]
-pub enum Stop {
-    End,
-    At(Refusal),
-}
-
-impl Stop {
-    // The refusal's number, 0 at the end of the bytes.
-    pub fn number(self) -> u64
-        ensures { result ≡ stop_number (stop_of self) }
-    {
-        match self {
-            Stop::End => 0,
-            Stop::At(why) => why.number(),
-        }
-    }
-}
-
+// How a stream ended: at the end of its bytes, or stopped by a refusal; how many records were carried out; the totals.
 #[derive(Clone, Copy)]
 pub struct Streamed {
-    pub stop: Stop,
+    pub stop: Option<Refusal>,
     pub carried: usize,
     pub totals: Totals,
 }
 
-// The records in order: the reader is handed the rest of the stream that starts after the record before.
+impl Streamed {
+    // The refusal's number, 0 at the end of the bytes.
+    pub fn refusal(self) -> u64
+        ensures { result ≡ stop_number self.stop }
+    {
+        match self.stop {
+            Some(why) => u64::from(why),
+            None => 0,
+        }
+    }
+}
+
+// The records in order: the reader is handed the rest of the stream that starts after the record before, and says where it ends.
 fn carry_all(
     store: &mut [u32],
     spare: &mut [u32],
     waiting: &mut [u32],
     answers: &mut [u32],
-    n: usize,
-    c: usize,
-    d: usize,
+    sizes: Sizes,
     bytes: &[u8],
     totals: Totals,
 ) -> Streamed
-    requires { StreamLent n c d bytes.now (tables store.old spare.old waiting.old answers.old totals) × Sound n c d store.old }
-    ensures { StreamCarries n c d bytes.now (tables store.old spare.old waiting.old answers.old totals) (result_of result) (tables store.new spare.new waiting.new answers.new result.totals) }
+    requires { StreamLent sizes.room.n sizes.room.c sizes.limit.d bytes.now (tables store.old spare.old waiting.old answers.old totals) × Sound sizes.room.n sizes.room.c sizes.limit.d store.old }
+    ensures { StreamCarries sizes.room.n sizes.room.c sizes.limit.d bytes.now (tables store.old spare.old waiting.old answers.old totals) (result_of result) (tables store.new spare.new waiting.new answers.new result.totals) }
 {
-    let mut at: usize = 0;
+    let mut rest = bytes;
     let mut carried: usize = 0;
     let mut sum = totals;
     let stop = loop {
-        match reader::read(&bytes[at..]) {
-            Reading::End => break Stop::End,
-            Reading::Refused(why) => break Stop::At(why),
-            Reading::Whole(rec) => {
-                sum = step(store, spare, waiting, answers, n, c, d, rec, carried, sum);
+        match reader::read(rest) {
+            None => break None,
+            Some(Err(why)) => break Some(why),
+            Some(Ok(rec)) => {
+                rest = &rest[Record::BYTES..];
+                sum = step(store, spare, waiting, answers, sizes, rec, carried, sum);
                 carried += 1;
-                at += Record::BYTES;
             }
         }
     };
@@ -99,7 +89,7 @@ fn fits(
     if waiting != n {
         return false;
     }
-    if let Measured::Outside = Length::of(bytes) {
+    if Length::of(bytes).is_none() {
         return false;
     }
     if answers < 2 * (bytes / Record::BYTES) {
@@ -119,7 +109,7 @@ fn refused(why: Refusal, totals: Totals) -> Streamed
     ensures { Stopped why totals result }
 {
     Streamed {
-        stop: Stop::At(why),
+        stop: Some(why),
         carried: 0,
         totals,
     }
@@ -151,8 +141,7 @@ pub fn stream(
         return refused(Refusal::Sizes, totals);
     }
     match judge::judge(n, c, d, store) {
-        Verdict::WrongSizes => refused(Refusal::Sizes, totals),
-        Verdict::Unsound => refused(Refusal::Unsound, totals),
-        Verdict::Sound => carry_all(store, spare, waiting, answers, n, c, d, bytes, totals),
+        Ok(sizes) => carry_all(store, spare, waiting, answers, sizes, bytes, totals),
+        Err(why) => refused(why, totals),
     }
 }

@@ -6,7 +6,7 @@ use terms::refusal::Answer;
 
 // Lent from C as two words in a row.
 #[repr(C)]
-#[derive(Clone, Copy)]
+#[derive(Clone, Copy, PartialEq, Eq, Default)]
 pub struct Totals {
     pub accepted: u64,
     pub reversals: u64,
@@ -20,18 +20,12 @@ impl Totals {
         requires { Small self answer }
         ensures { Forward self kind answer result }
     {
-        match kind {
-            Kind::Open => self,
-            Kind::Close => self,
-            Kind::Link => match answer {
-                Answer::Done(reversals) => Totals {
-                    accepted: self.accepted + 1,
-                    reversals: self.reversals + reversals,
-                },
-                Answer::Refused(_) => self,
+        match (kind, answer) {
+            (Kind::Link, Ok(reversals)) => Totals {
+                accepted: self.accepted + 1,
+                reversals: self.reversals + reversals,
             },
-            Kind::Unlink => self,
-            Kind::Ask => self,
+            _ => self,
         }
     }
 }

@@ -1,4 +1,3 @@
--- What filling a table from its start shows, and writing it by sections.
-pub mod Fill
+-- What writing the table by sections shows, and what a cell's steps from list to list write.
 pub mod Writing
 pub mod Stepping

@@ -1,11 +1,13 @@
--- Sections that are written one after the other: how one grows by a word, and that the nine of empty make the table that document
--- 01 lists. Assumes nothing.
+-- Sections that are written one after the other: what one is whose words are replaced as a part of the table, and that the nine of
+-- empty make the table that document 01 lists. Assumes nothing.
 use Prim.Native.Nat.{ℕ, ◌+◌, ◌*◌, ◌-◌, ◌≤◌, ◌<◌}
 use mathlib.Core.List.{List}
-use mathlib.Core.Path.{◌≡◌, refl, ap, subst, ◌∙◌}
-use native.Mathlib.Decide.{ℕ_discrete}
+use mathlib.Core.Path.{◌≡◌, ap, subst, ◌∙◌}
 use native.Mathlib.Omega.{arith}
-use lib.ListN.{length, set}
+use lib.ListN.{get_or, get_or-replicate, length, length-replicate, replicate}
+use borrow.Author.Rules.{rules}
+use borrow.Rule.Slice.PartMut.{put_mid}
+use Rattle.std.proofs.lemmas.List.{places}
 use Rattle.meaning.specs.Table.{NONE, word, head_at, length_at, owner_at, target_at, next_at, written}
 use Rattle.meaning.specs.Day.{empty_table}
 use Rattle.meaning.proofs.Words.{written_length, word_same, word_other}
@@ -13,27 +15,19 @@ use Rattle.meaning.proofs.Empty.{emptied_is}
 use Rattle.table.specs.Within.{Within}
 use Rattle.table.specs.Writing.{Writes, PlacesEmptied, CellsEmptied}
 
-pub writes_none : (from : ℕ) (f : ℕ → ℕ) (w : List ℕ) → Writes from 0 f w w
-writes_none from f w = record { long = refl; inside = λ j h. absurd (omega arith); below = λ p h. refl; above = λ p h. refl }
+-- as many words as ys has are replaced by it; the loan of a part of a slice names how many by a number of its own, k
+module _ (from k many : ℕ) (w ys : List ℕ) (room : from + many ≤ length w) (part : k ≡ many) where
+  pub writes_part : (f : ℕ → ℕ) → length ys ≡ many → ((j : ℕ) → j < many → get_or ys j 0 ≡ f j) → Writes from many f w (put_mid from k w ys)
+  unfolding word
+  writes_part f long each = rw part (record {
+    long = search (rules, places);
+    inside = λ j q. let e = each j q in search (rules, places);
+    below = λ p q. search (rules, places);
+    above = λ p q. search (rules, places);
+  })
 
-module _ (from i : ℕ) (f : ℕ → ℕ) (w w' : List ℕ) (W : Writes from i f w w') where
-  next_word : (x : ℕ) → from + i < length w' → x ≡ f i → Writes from (i + 1) f w (written w' (from + i) x)
-  next_word x h e = record {
-    long = written_length w' (from + i) x ∙ W.long;
-    inside = λ j q. elim (ℕ_discrete j i) [
-      | yes r ↦ rw r (word_same w' (from + i) x h ∙ e)
-      | no r ↦ word_other w' (from + i) (from + j) x (λ z. r (omega arith)) ∙ W.inside j (omega (arith, r))
-    ];
-    below = λ p q. word_other w' (from + i) p x (λ z. omega arith) ∙ W.below p q;
-    above = λ p q. word_other w' (from + i) p x (λ z. omega arith) ∙ W.above p (omega arith);
-  }
-
-  pub writes_more : (x : ℕ) → from + i < length w' → x ≡ f i → Writes from (i + 1) f w (set w' (from + i) x)
-  unfolding written
-  writes_more x h e = next_word x h e
-
-  pub writes_all : (many : ℕ) → i ≡ many → Writes from many f w w'
-  writes_all many e = rw (← e) W
+  pub writes_same : (x : ℕ) → ys ≡ replicate many x → Writes from many (λ _. x) w (put_mid from k w ys)
+  writes_same x e = writes_part (λ _. x) (rw e (length-replicate many x)) (λ j q. rw e (get_or-replicate many j x 0 q))
 
 pub writes_one : (i x : ℕ) (w w' : List ℕ) → i < length w → w' ≡ written w i x → Writes i 1 (λ _. x) w w'
 writes_one i x w w' h e = record {

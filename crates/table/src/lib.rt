@@ -1,4 +1,4 @@
-// The words of a lent table, by section: reading one, writing one, copying and clearing whole tables, and the empty table. It
+// The words of a lent table, by section: reading one, writing one, and the empty table. It
 // knows where each section stands and nothing of what a sound table is: every caller shows that a place or a cell is within
 // the table.
 #![tactic(auto)]
@@ -6,4 +6,4 @@
 pub mod empty;
 pub mod section;
 pub mod step;
-pub mod whole;
+pub mod view;

@@ -1,5 +1,6 @@
 // The steps that write: a place's two words, and a cell that leaves one list and goes to the front of another. The sections'
-// words are read before any is written.
+// words are read before any is written. A step takes the words and their room apart: a view that lends its words to be written would
+// have to promise, step by step, that it still has the same room and the same words.
 ghost use Rattle.std.specs.Prelude.{◌+◌, ◌^◌, ◌<◌, length, ◌≡◌};
 ghost use Rattle.meaning.specs.Table.{written, length_of};
 ghost use Rattle.meaning.proofs.Steps.{listed, celled, renamed, unhooked, hooked};
@@ -7,7 +8,9 @@ ghost use Rattle.table.specs.Within.{AtPlace, AtList, AtCell};
 ghost use Rattle.table.specs.Stepping.{Unhooks, Hooks};
 
 use crate::section;
+use crate::view::Table;
 use terms::run::Run;
+use terms::size::Room;
 
 pub fn put(table: &mut [u32], i: usize, x: usize)
     requires { (i < length table.old) × (x < 2 ^ 32) }
@@ -17,60 +20,54 @@ pub fn put(table: &mut [u32], i: usize, x: usize)
 }
 
 // The run at a place.
-pub fn rename(store: &mut [u32], n: usize, c: usize, v: usize, run: Run)
-    requires { AtPlace n c store.old v }
-    ensures { store.new ≡ renamed n c store.old v run.line run.trip }
+pub fn rename(store: &mut [u32], room: Room, v: usize, run: Run)
+    requires { AtPlace room.n room.c store.old v }
+    ensures { store.new ≡ renamed room.n room.c store.old v run.line run.trip }
 {
     store[v] = run.line;
-    store[n + v] = run.trip;
+    store[room.n + v] = run.trip;
 }
 
 // A list's two words.
-fn set_list(store: &mut [u32], n: usize, c: usize, v: usize, first: usize, many: usize)
-    requires { AtList n c store.old v × (first < 2 ^ 32) × (many < 2 ^ 32) }
-    ensures { store.new ≡ listed n c store.old v first many }
+fn set_list(store: &mut [u32], room: Room, v: usize, first: usize, many: usize)
+    requires { AtList room.n room.c store.old v × (first < 2 ^ 32) × (many < 2 ^ 32) }
+    ensures { store.new ≡ listed room.n room.c store.old v first many }
 {
-    put(store, section::head_at(n, c, v), first);
-    put(store, section::count_at(n, c, v), many);
+    put(store, section::head_at(room, v), first);
+    put(store, section::count_at(room, v), many);
 }
 
 // A cell's three words.
-fn set_cell(
-    store: &mut [u32],
-    n: usize,
-    c: usize,
-    i: usize,
-    owner: usize,
-    target: usize,
-    next: usize,
-)
-    requires { AtCell n c store.old i × (owner < 2 ^ 32) × (target < 2 ^ 32) × (next < 2 ^ 32) }
-    ensures { store.new ≡ celled n c store.old i owner target next }
+fn set_cell(store: &mut [u32], room: Room, i: usize, owner: usize, target: usize, next: usize)
+    requires { AtCell room.n room.c store.old i × (owner < 2 ^ 32) × (target < 2 ^ 32) × (next < 2 ^ 32) }
+    ensures { store.new ≡ celled room.n room.c store.old i owner target next }
 {
-    put(store, section::owner_at(n, c, i), owner);
-    put(store, section::target_at(n, c, i), target);
-    put(store, section::next_at(n, c, i), next);
+    put(store, section::owner_at(room, i), owner);
+    put(store, section::target_at(room, i), target);
+    put(store, section::next_at(room, i), next);
 }
 
 // Cell i leaves the list of v; the word that names it stands at `at`.
-pub fn unhook(store: &mut [u32], n: usize, c: usize, at: usize, v: usize, i: usize)
-    requires { Unhooks n c store.old at v i }
-    ensures { store.new ≡ unhooked n c store.old at v i }
+pub fn unhook(store: &mut [u32], room: Room, at: usize, v: usize, i: usize)
+    requires { Unhooks room.n room.c store.old at v i }
+    ensures { store.new ≡ unhooked room.n room.c store.old at v i }
 {
-    let rest = section::next(store, n, c, i);
-    let many = section::count(store, n, c, v) - 1;
+    let table = Table { words: store, room };
+    let rest = table.next(i);
+    let many = table.count(v) - 1;
     put(store, at, rest);
-    put(store, section::count_at(n, c, v), many);
+    put(store, section::count_at(room, v), many);
 }
 
 // Cell i goes to the front of the list of v with target t. The list's new length.
-pub fn hook(store: &mut [u32], n: usize, c: usize, i: usize, v: usize, t: usize) -> usize
-    requires { Hooks n c store.old i v t }
-    ensures { (result ≡ length_of n c store.old v + 1) × (store.new ≡ hooked n c store.old i v t) }
+pub fn hook(store: &mut [u32], room: Room, i: usize, v: usize, t: usize) -> usize
+    requires { Hooks room.n room.c store.old i v t }
+    ensures { (result ≡ length_of room.n room.c store.old v + 1) × (store.new ≡ hooked room.n room.c store.old i v t) }
 {
-    let rest = section::head(store, n, c, v);
-    let many = section::count(store, n, c, v) + 1;
-    set_cell(store, n, c, i, v, t, rest);
-    set_list(store, n, c, v, i, many);
+    let table = Table { words: store, room };
+    let rest = table.head(v);
+    let many = table.count(v) + 1;
+    set_cell(store, room, i, v, t, rest);
+    set_list(store, room, v, i, many);
     many
 }

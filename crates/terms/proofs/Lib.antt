@@ -2,3 +2,4 @@
 pub mod Names
 pub mod Told
 pub mod Sizes
+pub mod Steps

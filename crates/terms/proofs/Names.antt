@@ -37,14 +37,6 @@ pub same_yes : (p q : Run) → p.line ≡ q.line → p.trip ≡ q.trip → same_
 unfolding same_run
 same_yes p q a b = rw (eq-eqb _ _ a, eq-eqb _ _ b)
 
-pub other_line : (p q : Run) → (p.line ≡ q.line → ⊥) → same_run p q ≡ false
-unfolding same_run
-other_line p q n = rw (ne_eqb _ _ n)
-
-pub other_trip : (p q : Run) → p.line ≡ q.line → (p.trip ≡ q.trip → ⊥) → same_run p q ≡ false
-unfolding same_run
-other_trip p q a n = rw (eq-eqb _ _ a, ne_eqb _ _ n)
-
 pub same_refl : (p : Run) → same_run p p ≡ true
 same_refl p = same_yes p p refl refl
 
@@ -60,3 +52,16 @@ same_eq p q e = go (eqb p.line q.line) refl (eqb p.trip q.trip) refl e
 
 pub same_ne : (p q : Run) → same_run p q ≡ false → p ≡ q → ⊥
 same_ne p q e f = let t : same_run p q ≡ true = rw f (same_refl q) in let z : ◌≡◌ {A = ℕ} 0 1 = cc in omega arith
+
+-- two names that are not equal are not the same run
+pub same_no : (p q : Run) → (p ≡ q → ⊥) → same_run p q ≡ false
+same_no p q d = go (same_run p q) refl
+  where
+    go : (a : Bool) → same_run p q ≡ a → same_run p q ≡ false
+    go true e = absurd (d (same_eq p q e))
+    go false e = e
+
+-- what `==` compares is what makes two names the same run
+pub same_by : (p q : Run) → eqb p.line q.line && eqb p.trip q.trip ≡ same_run p q
+unfolding same_run
+same_by p q = refl

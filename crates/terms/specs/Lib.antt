@@ -1,4 +1,5 @@
 pub mod Tells
 pub mod Size
+pub mod Told
 pub mod Run
 pub mod Refusal

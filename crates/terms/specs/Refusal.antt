@@ -1,9 +1,7 @@
 -- Document 01, "Refusal numbers".
-use Rattle.std.specs.Prelude.{ℕ}
+use Rattle.std.specs.Prelude.{ℕ, Result, Ok, Err}
 use Rattle.terms.specs.declared.refusal.Refusal.{Refusal}
 use Rattle.terms.specs.declared.refusal.Refusal.TheVariants.{Sizes, Unsound, BadName, SameRun, NotOpen, Already, NoLink, NoRoom, TooDense, Touched, WrongMark, WrongKind, CutShort, BadSet}
-use Rattle.terms.specs.declared.refusal.Answer.{Answer}
-use Rattle.terms.specs.declared.refusal.Answer.TheVariants.{Done, Refused}
 
 -- the table's number for each refusal
 abbrev pub number_of : Refusal → ℕ
@@ -22,12 +20,16 @@ number_of WrongKind = 12
 number_of CutShort = 13
 number_of BadSet = 14
 
+-- what a call answers: done with a number, or refused
+abbrev pub Answer : Type 0
+Answer = Result ℕ Refusal
+
 -- 0 is done
 abbrev pub refusal_of : Answer → ℕ
-refusal_of (Done k) = 0
-refusal_of (Refused why) = number_of why
+refusal_of (Ok k) = 0
+refusal_of (Err why) = number_of why
 
 -- a refused call returns number 0
 abbrev pub value_of : Answer → ℕ
-value_of (Done k) = k
-value_of (Refused why) = 0
+value_of (Ok k) = k
+value_of (Err why) = 0

@@ -1,11 +1,5 @@
 -- Document 01, "Sizes". The numbers stand here once.
-use Rattle.std.specs.Prelude.{ℕ, ◌+◌, ◌*◌, ◌^◌, ◌≤◌, ◌≡◌}
-use Rattle.terms.specs.declared.size.Roomed.{Roomed}
-use Rattle.terms.specs.declared.size.Roomed.TheVariants as roomed
-use Rattle.terms.specs.declared.size.Limited.{Limited}
-use Rattle.terms.specs.declared.size.Limited.TheVariants as limited
-use Rattle.terms.specs.declared.size.Measured.{Measured}
-use Rattle.terms.specs.declared.size.Measured.TheVariants as measured
+use Rattle.std.specs.Prelude.{ℕ, ◌+◌, ◌*◌, ◌^◌, ◌≤◌}
 
 -- places for runs: 1 to 4,096
 abbrev pub places_most : ℕ
@@ -44,18 +38,3 @@ stream_most = 983025
 -- a running total is at most 2^62 on entry
 abbrev pub total_most : ℕ
 total_most = 2 ^ 62
-
--- what Room::of answers: the room itself where both sizes are within their limits
-abbrev pub RoomTold : Roomed → ℕ → ℕ → Type 0
-RoomTold (roomed.Within r) n C = (r.n ≡ n) × (r.c ≡ C) × InRoom n C
-RoomTold roomed.Outside n C = InRoom n C → ⊥
-
--- what Limit::of answers
-abbrev pub LimitTold : Limited → ℕ → Type 0
-LimitTold (limited.Within l) D = (l.d ≡ D) × InLimit D
-LimitTold limited.Outside D = InLimit D → ⊥
-
--- what Length::of answers
-abbrev pub LengthTold : Measured → ℕ → Type 0
-LengthTold (measured.Within l) bytes = (l.bytes ≡ bytes) × (bytes ≤ stream_most)
-LengthTold measured.Outside bytes = bytes ≤ stream_most → ⊥

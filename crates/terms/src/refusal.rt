@@ -2,86 +2,62 @@
 ghost use Rattle.terms.specs.Refusal.{number_of, refusal_of, value_of};
 ghost use Rattle.std.specs.Prelude.{◌≡◌};
 
-#[derive(Clone, Copy)]
+#[derive(Clone, Copy, PartialEq, Eq)]
 pub enum Refusal {
     // A size outside its limits, a table of wrong length, a stream too long, a total too large.
-    Sizes,
+    Sizes = 1,
     // The store is not sound.
-    Unsound,
+    Unsound = 2,
     // A named run has line 0 or a line above the most.
-    BadName,
+    BadName = 3,
     // Both names are the same run.
-    SameRun,
+    SameRun = 4,
     // A named run, or a place in a set, is not open.
-    NotOpen,
+    NotOpen = 5,
     // Open: already open. Link: already linked.
-    Already,
+    Already = 6,
     // Unlink: no such link.
-    NoLink,
+    NoLink = 7,
     // Open: no free place. Link: no free cell.
-    NoRoom,
+    NoRoom = 8,
     // Link: a place still waits after as many lists were turned as there are links.
-    TooDense,
+    TooDense = 9,
     // Close: a link touches the run.
-    Touched,
+    Touched = 10,
     // A record without its mark.
-    WrongMark,
+    WrongMark = 11,
     // A record of an unknown kind, or with a second run where there is none.
-    WrongKind,
+    WrongKind = 12,
     // A record cut short by the end of the stream.
-    CutShort,
+    CutShort = 13,
     // A set of fewer than two places, or not strictly rising.
-    BadSet,
+    BadSet = 14,
 }
 
-impl Refusal {
-    pub fn number(self) -> u64
-        ensures { result ≡ number_of self }
-    {
-        match self {
-            Refusal::Sizes => 1,
-            Refusal::Unsound => 2,
-            Refusal::BadName => 3,
-            Refusal::SameRun => 4,
-            Refusal::NotOpen => 5,
-            Refusal::Already => 6,
-            Refusal::NoLink => 7,
-            Refusal::NoRoom => 8,
-            Refusal::TooDense => 9,
-            Refusal::Touched => 10,
-            Refusal::WrongMark => 11,
-            Refusal::WrongKind => 12,
-            Refusal::CutShort => 13,
-            Refusal::BadSet => 14,
-        }
+impl From<Refusal> for u64 {
+    ghost from_gives = { λ why number. number ≡ number_of why };
+
+    fn from(why: Refusal) -> u64 {
+        why as u64
     }
 }
 
-// What a single call answers: done, with its number, or refused.
-#[derive(Clone, Copy)]
-pub enum Answer {
-    Done(u64),
-    Refused(Refusal),
+// What a single call answers: its number where it is done, else why it is refused.
+pub type Answer = Result<u64, Refusal>;
+
+// The refusal number, 0 where the call is done: document 01's first number of an answer.
+pub fn refusal_of(answer: Answer) -> u64
+    ensures { result ≡ refusal_of answer }
+{
+    match answer {
+        Ok(_) => 0,
+        Err(why) => u64::from(why),
+    }
 }
 
-impl Answer {
-    // The refusal number, 0 where the call is done.
-    pub fn refusal(self) -> u64
-        ensures { result ≡ refusal_of self }
-    {
-        match self {
-            Answer::Done(_) => 0,
-            Answer::Refused(why) => why.number(),
-        }
-    }
-
-    // The number, 0 where the call is refused.
-    pub fn value(self) -> u64
-        ensures { result ≡ value_of self }
-    {
-        match self {
-            Answer::Done(number) => number,
-            Answer::Refused(_) => 0,
-        }
-    }
+// The number, 0 where the call is refused: its second.
+pub fn value_of(answer: Answer) -> u64
+    ensures { result ≡ value_of answer }
+{
+    answer.unwrap_or(0)
 }

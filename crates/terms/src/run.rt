@@ -1,8 +1,8 @@
 // A run is its line and its trip number together. Two runs are the same only where both agree.
-ghost use Rattle.terms.specs.Run.{bad_name, same_run};
+ghost use Rattle.terms.specs.Run.{bad_name};
 ghost use Rattle.std.specs.Prelude.{◌≡◌};
 
-#[derive(Clone, Copy)]
+#[derive(Clone, Copy, PartialEq, Eq, Default)]
 pub struct Run {
     pub line: u32,
     pub trip: u32,
@@ -22,17 +22,5 @@ impl Run {
             return true;
         }
         false
-    }
-
-    pub fn is(self, other: Run) -> bool
-        ensures { result ≡ same_run self other }
-    {
-        if self.line != other.line {
-            return false;
-        }
-        if self.trip != other.trip {
-            return false;
-        }
-        true
     }
 }

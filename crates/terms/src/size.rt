@@ -1,6 +1,6 @@
-// The sizes of a store and their limits: each number stands here once. A constructor takes any number that fits a word
-// of the machine and answers with the size or with Outside.
-ghost use Rattle.terms.specs.Size.{store_words, RoomTold, LimitTold, LengthTold, InRoom};
+// The sizes of a store and their limits: each number stands here once. A value of these types is within its limits, and a
+// constructor takes any number that fits a word of the machine.
+ghost use Rattle.terms.specs.Size.{store_words, InRoom, InLimit};
 ghost use Rattle.std.specs.Prelude.{◌≡◌};
 
 // Places for runs and cells for links: what fixes the length of every table.
@@ -8,15 +8,12 @@ ghost use Rattle.std.specs.Prelude.{◌≡◌};
 pub struct Room {
     pub n: usize,
     pub c: usize,
-}
-
-#[derive(Clone, Copy)]
-pub enum Roomed {
-    Within(Room),
-    Outside,
+    pub ghost within: { InRoom n c },
 }
 
 impl Room {
+    ghost use Rattle.terms.specs.Told.{RoomTold};
+
     pub const PLACES_LEAST: usize = 1;
 
     pub const PLACES_MOST: usize = 4096;
@@ -25,27 +22,21 @@ impl Room {
 
     pub const CELLS_MOST: usize = 16384;
 
-    pub fn of(n: usize, c: usize) -> Roomed
+    // The room of any two numbers that are within its limits.
+    pub fn of(n: usize, c: usize) -> Option<Room>
         ensures { RoomTold result n c }
     {
-        if n < Room::PLACES_LEAST {
-            return Roomed::Outside;
+        if !(Room::PLACES_LEAST..=Room::PLACES_MOST).contains(&n) {
+            return None;
         }
-        if n > Room::PLACES_MOST {
-            return Roomed::Outside;
+        if !(Room::CELLS_LEAST..=Room::CELLS_MOST).contains(&c) {
+            return None;
         }
-        if c < Room::CELLS_LEAST {
-            return Roomed::Outside;
-        }
-        if c > Room::CELLS_MOST {
-            return Roomed::Outside;
-        }
-        Roomed::Within(Room { n, c })
+        Some(Room { n, c })
     }
 
     // The words of the store; the spare has as many, and the waiting table has one for each place.
     pub fn store_words(self) -> usize
-        requires { InRoom self.n self.c }
         ensures { result ≡ store_words self.n self.c }
     {
         4 * self.n + 2 + 3 * self.c
@@ -56,30 +47,31 @@ impl Room {
 #[derive(Clone, Copy)]
 pub struct Limit {
     pub d: usize,
-}
-
-#[derive(Clone, Copy)]
-pub enum Limited {
-    Within(Limit),
-    Outside,
+    pub ghost within: { InLimit d },
 }
 
 impl Limit {
+    ghost use Rattle.terms.specs.Told.{LimitTold};
+
     pub const LEAST: usize = 2;
 
     pub const MOST: usize = 64;
 
-    pub fn of(d: usize) -> Limited
+    pub fn of(d: usize) -> Option<Limit>
         ensures { LimitTold result d }
     {
-        if d < Limit::LEAST {
-            return Limited::Outside;
+        if !(Limit::LEAST..=Limit::MOST).contains(&d) {
+            return None;
         }
-        if d > Limit::MOST {
-            return Limited::Outside;
-        }
-        Limited::Within(Limit { d })
+        Some(Limit { d })
     }
+}
+
+// The sizes of a store: its room, and the limit of its lists.
+#[derive(Clone, Copy)]
+pub struct Sizes {
+    pub room: Room,
+    pub limit: Limit,
 }
 
 // How many bytes a stream may have: 65,535 records of 15.
@@ -88,21 +80,17 @@ pub struct Length {
     pub bytes: usize,
 }
 
-#[derive(Clone, Copy)]
-pub enum Measured {
-    Within(Length),
-    Outside,
-}
-
 impl Length {
+    ghost use Rattle.terms.specs.Told.{LengthTold};
+
     pub const MOST: usize = 983025;
 
-    pub fn of(bytes: usize) -> Measured
+    pub fn of(bytes: usize) -> Option<Length>
         ensures { LengthTold result bytes }
     {
         if bytes > Length::MOST {
-            return Measured::Outside;
+            return None;
         }
-        Measured::Within(Length { bytes })
+        Some(Length { bytes })
     }
 }

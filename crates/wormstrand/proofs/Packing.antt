@@ -7,8 +7,8 @@ use lib.ListN.{get_or}
 use Rattle.terms.specs.Refusal.{number_of, refusal_of, value_of}
 use Rattle.terms.specs.declared.refusal.Refusal.{Refusal}
 use Rattle.terms.specs.declared.refusal.Refusal.TheVariants.{Sizes, Unsound, BadName, SameRun, NotOpen, Already, NoLink, NoRoom, TooDense, Touched, WrongMark, WrongKind, CutShort, BadSet}
-use Rattle.terms.specs.declared.refusal.Answer.{Answer}
-use Rattle.terms.specs.declared.refusal.Answer.TheVariants.{Done, Refused}
+use Rattle.terms.specs.Refusal.{Answer}
+use Rattle.std.specs.Prelude.{Ok, Err}
 use Rattle.wormstrand.specs.Pack.{pack, Small, Packed}
 
 -- ---- each refusal has a number of its own
@@ -45,17 +45,17 @@ number_own a b e = sym (numbered a).place ∙ ap (λ (k : ℕ). get_or refusals 
 
 -- an answer is its refusal number and its number
 pub answer_own : (a b : Answer) → refusal_of a ≡ refusal_of b → value_of a ≡ value_of b → a ≡ b
-answer_own (Done j) (Done k) e f = ap Done f
-answer_own (Done j) (Refused why) e f = absurd (omega (arith, (numbered why).least))
-answer_own (Refused why) (Done k) e f = absurd (omega (arith, (numbered why).least))
-answer_own (Refused a) (Refused b) e f = ap Refused (number_own a b e)
+answer_own (Ok j) (Ok k) e f = ap Ok f
+answer_own (Ok j) (Err why) e f = absurd (omega (arith, (numbered why).least))
+answer_own (Err why) (Ok k) e f = absurd (omega (arith, (numbered why).least))
+answer_own (Err a) (Err b) e f = ap Err (number_own a b e)
 
 -- ---- packing
 
-pub pack_done : (a : Answer) (k : ℕ) → a ≡ Done k → k ≡ pack a
+pub pack_done : (a : Answer) (k : ℕ) → a ≡ Ok k → k ≡ pack a
 pack_done a k e = rw e (omega arith)
 
-pub pack_refused : (a : Answer) (why : Refusal) (r : ℕ) → a ≡ Refused why → r ≡ number_of why → r * 2 ^ 32 ≡ pack a
+pub pack_refused : (a : Answer) (why : Refusal) (r : ℕ) → a ≡ Err why → r ≡ number_of why → r * 2 ^ 32 ≡ pack a
 pack_refused a why r e f = rw (e, f) (omega arith)
 
 -- the upper half is the refusal and the lower half the number: so a caller takes a result apart

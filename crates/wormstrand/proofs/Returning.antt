@@ -3,7 +3,7 @@ use Prim.Native.Nat.{ℕ}
 use mathlib.Core.List.{List}
 use mathlib.Core.Path.{◌≡◌}
 use Rattle.terms.specs.declared.run.Run.{Run}
-use Rattle.terms.specs.declared.refusal.Answer.{Answer}
+use Rattle.terms.specs.Refusal.{Answer}
 use Rattle.meaning.specs.Calls.{Call}
 use Rattle.meaning.specs.Promise.{Promise, EmptyPromise, LinkPromise}
 use Rattle.wormstrand.specs.Pack.{pack, Packed}

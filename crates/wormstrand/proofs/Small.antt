@@ -2,7 +2,7 @@
 use Prim.Native.Nat.{ℕ, ◌-◌, ◌*◌, ◌/◌, ◌^◌, ◌<◌}
 use mathlib.Core.Bool.{true, not}
 use mathlib.Core.List.{List}
-use mathlib.Core.Option.{none}
+use Rattle.std.specs.Prelude.{None}
 use mathlib.Core.Path.{◌≡◌}
 use native.Mathlib.Decide.{dec_lt}
 use native.Mathlib.Nat.{div-le_self, mul-le-mul}
@@ -13,8 +13,8 @@ use borrow.Author.Tests.{not-false}
 use Rattle.terms.specs.Refusal.{value_of}
 use Rattle.terms.specs.Size.{InRoom, store_words}
 use Rattle.terms.specs.declared.run.Run.{Run}
-use Rattle.terms.specs.declared.refusal.Answer.{Answer}
-use Rattle.terms.specs.declared.refusal.Answer.TheVariants.{Done, Refused}
+use Rattle.terms.specs.Refusal.{Answer}
+use Rattle.std.specs.Prelude.{Ok, Err}
 use Rattle.terms.specs.declared.refusal.Refusal.TheVariants.{Sizes, Unsound}
 use Rattle.meaning.specs.Day.{day_of}
 use Rattle.meaning.specs.Soundness.{Sound, Sized}
@@ -45,7 +45,7 @@ module _ (n C D : ℕ) (w : List ℕ) (s : Sound n C D w) where
         sum-le (λ v c. in_set ps v * in_set ps c.target) (λ v c. 1) (day_of n C w).lists (λ v c. mul-le-mul (in_once v ps r) (in_once c.target ps r)),
       )
 
-  act_reading : (ps : List ℕ) → first_refusal (tests (day_of n C w) (reading ps)) ≡ none → Small (act D (day_of n C w) (reading ps)).answer
+  act_reading : (ps : List ℕ) → first_refusal (tests (day_of n C w) (reading ps)) ≡ None → Small (act D (day_of n C w) (reading ps)).answer
   act_reading ps e =
       let f : Failed (tests (day_of n C w) (reading ps)) = all_failed (tests (day_of n C w) (reading ps)) e in
       reading_small ps (not-false (rising ps) (either_false (ltb (length ps) 2) (not (rising ps)) f.0).1)
@@ -64,8 +64,8 @@ pub empty_small : (n C : ℕ) (w : List ℕ) (a : Answer) (w' : List ℕ) → Em
 empty_small n C w a w' p = elim (dec_lt (value_of a) (2 ^ 32)) [
   | yes h ↦ h
   | no h ↦
-      let outside : InRoom n C × (length w ≡ store_words n C) → ⊥ = λ z. h (of_small a (Done 0) (p.done z.0 z.1).0 (omega arith)) in
-      absurd (h (of_small a (Refused Sizes) (p.sizes outside).0 (omega arith)))
+      let outside : InRoom n C × (length w ≡ store_words n C) → ⊥ = λ z. h (of_small a (Ok 0) (p.done z.0 z.1).0 (omega arith)) in
+      absurd (h (of_small a (Err Sizes) (p.sizes outside).0 (omega arith)))
 ]
 
 pub promise_small : (n C D : ℕ) (q : Call) (w : List ℕ) (a : Answer) (w' : List ℕ) → Promise n C D q w a w' → Small a
@@ -73,8 +73,8 @@ promise_small n C D q w a w' p = elim (dec_lt (value_of a) (2 ^ 32)) [
   | yes h ↦ h
   | no h ↦
       let unsound : Sound n C D w → ⊥ = λ s. h (of_small a (call D (day_of n C w) q).answer (p.sound s).answer (call_small n C D w s q)) in
-      let unsized : Sized n C D w → ⊥ = λ z. h (of_small a (Refused Unsound) (p.unsound z unsound).0 (omega arith)) in
-      absurd (h (of_small a (Refused Sizes) (p.sizes unsized).0 (omega arith)))
+      let unsized : Sized n C D w → ⊥ = λ z. h (of_small a (Err Unsound) (p.unsound z unsound).0 (omega arith)) in
+      absurd (h (of_small a (Err Sizes) (p.sizes unsized).0 (omega arith)))
 ]
 
 pub link_promise_small : (n C D : ℕ) (p q : Run) (w spare waiting : List ℕ) (a : Answer) (w' spare' waiting' : List ℕ)
@@ -84,6 +84,6 @@ link_promise_small n C D p q w spare waiting a w' spare' waiting' k = elim (dec_
   | no h ↦
       let unsound : Lent n C D w spare waiting → Sound n C D w → ⊥ =
       λ l s. h (of_small a (call D (day_of n C w) (link p q)).answer (k.sound l s).carries.answer (call_small n C D w s (link p q))) in
-      let unlent : Lent n C D w spare waiting → ⊥ = λ l. h (of_small a (Refused Unsound) (k.unsound l (unsound l)).0 (omega arith)) in
-      absurd (h (of_small a (Refused Sizes) (k.sizes unlent).0 (omega arith)))
+      let unlent : Lent n C D w spare waiting → ⊥ = λ l. h (of_small a (Err Unsound) (k.unsound l (unsound l)).0 (omega arith)) in
+      absurd (h (of_small a (Err Sizes) (k.sizes unlent).0 (omega arith)))
 ]

@@ -1,7 +1,7 @@
 -- What an exported stream returns: the packing of the result that the stream promised. Assumes nothing.
 use Prim.Native.Nat.{ℕ, ◌^◌, ◌≤◌, ◌<◌}
 use mathlib.Core.List.{List}
-use mathlib.Core.Option.{Option, none, some}
+use Rattle.std.specs.Prelude.{Option, None, Some}
 use mathlib.Core.Path.{◌≡◌, ap}
 use native.Mathlib.Decide.{dec_lt}
 use native.Mathlib.Omega.{arith}
@@ -27,8 +27,8 @@ carried_small n C D bytes t r t' p = elim (dec_lt r.carried (2 ^ 32)) [
 
 -- ---- packing: a stream's refusal is at most 14
 pub stop_most : (s : Option Refusal) → stop_number s ≤ 14
-stop_most none = omega arith
-stop_most (some why) = (numbered why).most
+stop_most None = omega arith
+stop_most (Some why) = (numbered why).most
 
 -- ---- what is returned is the packing of what was promised
 pub result_packed : (n C D : ℕ) (bytes : List ℕ) (t t' : Tables) (s : Streamed) (r : ℕ)

@@ -4,7 +4,7 @@ use Prim.Native.Nat.{ℕ}
 use mathlib.Core.List.{List}
 use mathlib.Core.Path.{◌≡◌, sym, ap, ◌∙◌}
 use Rattle.terms.specs.declared.run.Run.{Run}
-use Rattle.terms.specs.declared.refusal.Answer.{Answer}
+use Rattle.terms.specs.Refusal.{Answer}
 use Rattle.meaning.specs.Calls.{Call}
 use Rattle.meaning.specs.Promise.{Promise, EmptyPromise, LinkPromise, Tables, Result, StreamPromise}
 use Rattle.demands.proofs.Tight.{call_tight, empty_tight, link_tight, Same, stream_tight}

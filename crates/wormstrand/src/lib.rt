@@ -1,5 +1,5 @@
 // The calls for programs in C and Rust, under the names that include/wormstrand.h declares and wormstrand_c exports. Each passes on
-// a public call and packs its answer; it judges nothing and knows no table.
+// a public call and packs its answer, with the names and the arguments that C has; it judges nothing and knows no table.
 #![tactic(auto)]
 
 ghost use Rattle.std.specs.Prelude.{◌^◌, ◌<◌, ◌≡◌};
@@ -21,8 +21,8 @@ fn pack(answer: Answer) -> u64
     ensures { result ≡ pack answer }
 {
     match answer {
-        Answer::Done(number) => number,
-        Answer::Refused(why) => why.number() * NUMBERS,
+        Ok(number) => number,
+        Err(why) => u64::from(why) * NUMBERS,
     }
 }
 
@@ -126,8 +126,7 @@ fn pack_result(streamed: Streamed) -> u64
     requires { streamed.carried < 2 ^ 32 }
     ensures { result ≡ pack_result (result_of streamed) }
 {
-    let stop = streamed.stop;
-    stop.number() * NUMBERS + streamed.carried as u64
+    streamed.refusal() * NUMBERS + streamed.carried as u64
 }
 
 // What a stream's caller gets: the totals brought forward, and refusal and number in one.
@@ -152,11 +151,9 @@ fn bring_forward(
     ensures { PackedResult (λ a. StreamPromise n c d bytes.now (tables store.old spare.old waiting.old answers.old totals) a (tables store.new spare.new waiting.new answers.new result.totals)) result.packed }
 {
     let streamed = stream::stream(n, c, d, store, spare, waiting, bytes, answers, totals);
-    let after = streamed.totals;
-    let packed = pack_result(streamed);
     Brought {
-        totals: after,
-        packed,
+        totals: streamed.totals,
+        packed: pack_result(streamed),
     }
 }
 

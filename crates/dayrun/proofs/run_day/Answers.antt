@@ -4,7 +4,7 @@ use Rattle.dayrun.proofs.Days.{stands, ran}
 use Rattle.dayrun.proofs.run_day.Goals as goal
 
 pub standing-requires : goal.standing-requires
-standing-requires c = stands _ _ _ _ _ _ _ _ c.stream-done.result _ _ _ _ c.requires.0 c.requires.1 refl refl refl refl refl c.empty.ensures c.stream-done.ensures
+standing-requires c = stands _ _ _ _ _ _ _ _ c.stream-done.result _ _ _ _ c.requires.0 c.requires.1 refl refl refl c.default.ensures.0 c.default.ensures.1 c.empty.ensures c.stream-done.ensures
 
 pub returns : goal.returns
-returns c = ran _ _ _ _ _ _ _ _ c.stream-done.result _ _ _ _ c.requires.0 c.requires.1 refl refl refl refl refl c.empty.ensures c.stream-done.ensures _ _ c.number.ensures c.standing.ensures
+returns c = ran _ _ _ _ _ _ _ _ c.stream-done.result _ _ _ _ c.requires.0 c.requires.1 refl refl refl c.default.ensures.0 c.default.ensures.1 c.empty.ensures c.stream-done.ensures _ _ c.refusal.ensures c.standing.ensures

@@ -1,16 +1,15 @@
--- `find::free_place` meets its contract: no place passed is free. Assumes nothing.
-use Rattle.find.proofs.Finding.{taken_start, taken_more, free_here, free_nowhere}
-use native.Mathlib.Omega.{arith}
+-- `find::free_place` meets its contract: the first place with line 0. Assumes nothing.
+use Rattle.std.proofs.Common.{◌≡◌, ℕ, rules, true, false, eqb}
+use Rattle.std.proofs.lemmas.Iterator.{first_from_Range}
+use borrow.Author.Tests.{tests}
+use Rattle.table.specs.Within.{named}
+use Rattle.find.proofs.Finding.{first_place}
 use Rattle.find.proofs.free_place.Goals as goal
 
-pub loop-lowest-init : goal.loop-lowest-init
-loop-lowest-init c = taken_start _ _ _
-
-pub returns-then-line-eq0 : goal.returns-then-line-eq0
-returns-then-line-eq0 c = (free_here _ _ _ _ _ c.loop-lowest.invariant c.loop-lowest-test.true c.line-line.ensures.0 c.if-line-eq0.true, omega arith)
-
-pub loop-lowest-preserved : goal.loop-lowest-preserved
-loop-lowest-preserved c = taken_more _ _ _ _ _ c.loop-lowest.invariant c.loop-lowest-test.true c.line-line.ensures.0 c.if-line-eq0.false
-
 pub returns : goal.returns
-returns c = (free_nowhere _ _ _ _ c.loop-lowest.invariant c.loop-lowest-test.false, omega arith)
+returns c =
+    let t = c.args.table in
+    let is_free = λ (v : ℕ). eqb (named t.room.n t.room.c t.words.now v).line 0 in
+    first_place t.room.n t.room.c t.words.now (λ r. eqb r.line 0) (λ v. is_free v ≡ true) (λ v. is_free v ≡ false) (λ k e. e) (λ k e. e) c.find.result
+    (first_from_Range _ _ _ c.find.result (λ v. is_free v ≡ true) (λ v. is_free v ≡ false) c.find.ensures.ran
+    (λ x q k. search (rules, tests)) (λ x q k. search (rules, tests)))

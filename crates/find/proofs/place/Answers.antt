@@ -1,16 +1,18 @@
--- `find::place` meets its contract: no place passed has the name. Assumes nothing.
-use Rattle.find.proofs.Finding.{unnamed_start, unnamed_more, named_here, named_nowhere}
-use native.Mathlib.Omega.{arith}
+-- `find::place` meets its contract: the first place whose run is the run. Assumes nothing.
+use Rattle.std.proofs.Common.{◌≡◌, ℕ, rules, sym}
+use Rattle.std.proofs.lemmas.Iterator.{first_from_Range}
+use borrow.Author.Tests.{tests}
+use Rattle.terms.specs.Run.{same_run}
+use Rattle.terms.proofs.Names.{same_refl, same_no}
+use Rattle.table.specs.Within.{named}
+use Rattle.find.proofs.Finding.{first_place}
 use Rattle.find.proofs.place.Goals as goal
 
-pub loop-v-init : goal.loop-v-init
-loop-v-init c = unnamed_start _ _ _ _
-
-pub returns-then-is : goal.returns-then-is
-returns-then-is c = (named_here _ _ _ _ _ c.loop-v.invariant c.loop-v-test.true (cc), omega arith)
-
-pub loop-v-preserved : goal.loop-v-preserved
-loop-v-preserved c = unnamed_more _ _ _ _ _ c.loop-v.invariant c.loop-v-test.true (cc)
-
 pub returns : goal.returns
-returns c = (named_nowhere _ _ _ _ _ c.loop-v.invariant c.loop-v-test.false, omega arith)
+returns c =
+    let t = c.args.table in
+    let run_at = λ (v : ℕ). named t.room.n t.room.c t.words.now v in
+    first_place t.room.n t.room.c t.words.now (same_run c.args.run) (λ v. run_at v ≡ c.args.run) (λ v. run_at v ≡ c.args.run → ⊥)
+    (λ k e. rw e (same_refl c.args.run)) (λ k d. same_no c.args.run (run_at k) (λ e. d (sym e))) c.find.result
+    (first_from_Range _ _ _ c.find.result (λ v. run_at v ≡ c.args.run) (λ v. run_at v ≡ c.args.run → ⊥) c.find.ensures.ran
+    (λ x q k. search (rules, tests)) (λ x q k. search (rules, tests)))

@@ -2,10 +2,10 @@
 use Rattle.wormstrand.proofs.Streams.{carried_small, result_packed}
 use Rattle.wormstrand.proofs.bring_forward.Goals as goal
 
-pub pack_result-packed-requires : goal.pack_result-packed-requires
-pack_result-packed-requires c = carried_small _ _ _ _ _ _ _ c.stream-streamed.ensures
+pub pack_result-requires : goal.pack_result-requires
+pack_result-requires c = carried_small _ _ _ _ _ _ _ c.stream-streamed.ensures
 
 pub returns : goal.returns
 returns c =
     result_packed _ _ _ _ _ _ c.stream-streamed.result _
-    c.stream-streamed.ensures c.pack_result-packed.ensures
+    c.stream-streamed.ensures c.pack_result.ensures

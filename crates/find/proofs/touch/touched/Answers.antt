@@ -1,18 +1,17 @@
--- `find::touch::touched` meets its contract: the list of v is empty and no cell passed aims at v, or one of the two was found. Assumes nothing.
-use Rattle.find.proofs.Touching.{unaimed_start, unaimed_more, own_touched, aimed_touched, untouched}
+-- `find::touch::touched` meets its contract: the list of v is not empty, or every cell is looked at until one aims at v. Assumes nothing.
+use Rattle.std.proofs.Common.{◌≡◌, refl, arith, rules, sym, ◌∙◌}
+use Rattle.std.proofs.lemmas.Iterator.{cases_from_any, YieldsList-from_range}
+use borrow.Author.Tests.{tests}
+use Rattle.meaning.specs.Table.{target_of}
+use Rattle.find.proofs.Touching.{own_touched, looked}
 use Rattle.find.proofs.touch.touched.Goals as goal
 
-pub returns-then-many-ne0 : goal.returns-then-many-ne0
-returns-then-many-ne0 c = own_touched _ _ _ c.requires.0 _ c.requires.1 _ c.count-many.ensures.0 c.if-many-ne0.true
-
-pub loop-i-init : goal.loop-i-init
-loop-i-init c = unaimed_start _ _ _ _ _ c.count-many.ensures.0 c.if-many-ne0.false
-
-pub returns-then-aim-v : goal.returns-then-aim-v
-returns-then-aim-v c = aimed_touched _ _ _ c.requires.0 _ c.requires.1 _ _ c.loop-i-test.true c.target-aim.ensures.0 c.if-aim-v.true
-
-pub loop-i-preserved : goal.loop-i-preserved
-loop-i-preserved c = unaimed_more _ _ _ _ _ _ c.loop-i.invariant c.loop-i-test.true c.target-aim.ensures.0 c.if-aim-v.false
+pub returns-then-count-ne0 : goal.returns-then-count-ne0
+returns-then-count-ne0 c = own_touched _ _ _ c.requires.0 _ c.requires.1 _ c.count.ensures.0 c.if-count-ne0.true
 
 pub returns : goal.returns
-returns c = untouched _ _ _ c.requires.0 _ c.requires.1 _ c.loop-i.invariant c.loop-i-test.false
+returns c =
+    let t = c.args.table in
+    looked _ _ _ c.requires.0 _ c.requires.1 c.any.result (sym c.count.ensures.0 ∙ c.if-count-ne0.false)
+    (cases_from_any _ _ c.any.result (λ i. target_of t.room.n t.room.c t.words.now i ≡ c.args.v) (λ i. target_of t.room.n t.room.c t.words.now i ≡ c.args.v → ⊥)
+    c.any.ensures.ran (YieldsList-from_range 0 t.room.c t.room.c refl (omega arith)) (λ x q k. search (rules, tests)) (λ x q k. search (rules, tests)))

@@ -4,7 +4,7 @@ use Rattle.judge.proofs.Buckets.{Walked}
 use Rattle.judge.proofs.name.fresh.Given as goal
 
 abbrev pub invariant-loop-u : goal.invariant-loop-u
-invariant-loop-u l = Walked l.n l.c l.store l.v l.u
+invariant-loop-u l = let t = l.table in Walked t.room.n t.room.c t.words.now l.v l.u
 
 abbrev pub decreases-loop-u : goal.decreases-loop-u
 decreases-loop-u l = l.u

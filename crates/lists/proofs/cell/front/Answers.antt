@@ -5,4 +5,4 @@ use Rattle.lists.proofs.cell.front.Goals as goal
 
 pub returns : goal.returns
 unfolding nth hook_at
-returns c = record { position = refl; cell = c.head-cell.ensures.0; hook = c.head_at-hook.ensures }
+returns c = record { list = refl; position = refl; cell = c.head.ensures.0; hook = c.head_at.ensures }

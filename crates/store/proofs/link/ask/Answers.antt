@@ -1,19 +1,19 @@
 -- `store::link::ask` meets its contract: each answer is the law of its case. Assumes nothing.
-use Rattle.store.proofs.Linking.{found_two, ask_barred, ask_first, ask_second, ask_neither}
-use Rattle.find.proofs.Finding.{named_both, named_barred, link_first, link_second, link_neither}
+use Rattle.std.proofs.lemmas.Result.{err_from_is_err_and}
+use Rattle.find.proofs.Finding.{named_both, named_barred, link_some, link_neither}
+use Rattle.store.proofs.Linking.{found_two, ask_barred, ask_linked, ask_neither}
 use Rattle.store.proofs.link.ask.Goals as goal
 
+pub returns-in_err-ends : goal.returns-in_err-ends
+returns-in_err-ends c =
+    let p = err_from_is_err_and c.from_residual.result c.from_residual.ensures.1 in
+    rw (p.1, p.2) (ask_barred _ _ _ _ c.requires _ _ _ (named_barred _ _ _ _ _ _ _ c.both.ensures c.in_err-ends.was))
+
 pub link_of-requires : goal.link_of-requires
-link_of-requires c = found_two _ _ _ _ _ _ _ c.requires (named_both _ _ _ _ _ _ _ c.both.ensures c.in-Both.is)
+link_of-requires c = found_two _ _ _ _ _ _ _ c.requires (named_both _ _ _ _ _ _ _ c.both.ensures c.in_ok-ends.was)
 
-pub returns-in-Refused : goal.returns-in-Refused
-returns-in-Refused c = ask_barred _ _ _ _ c.requires _ _ _ (named_barred _ _ _ _ _ _ _ c.both.ensures c.in-Refused.is)
+pub returns-in-Some : goal.returns-in-Some
+returns-in-Some c = ask_linked _ _ _ _ c.requires _ _ _ (named_both _ _ _ _ _ _ _ c.both.ensures c.in_ok-ends.was) _ (link_some _ _ _ _ _ _ _ c.link_of.ensures c.in-Some.is)
 
-pub returns-in-InFirst : goal.returns-in-InFirst
-returns-in-InFirst c = ask_first _ _ _ _ c.requires _ _ _ (named_both _ _ _ _ _ _ _ c.both.ensures c.in-Both.is) _ (link_first _ _ _ _ _ _ _ c.link_of.ensures c.in-InFirst.is)
-
-pub returns-in-InSecond : goal.returns-in-InSecond
-returns-in-InSecond c = ask_second _ _ _ _ c.requires _ _ _ (named_both _ _ _ _ _ _ _ c.both.ensures c.in-Both.is) _ (link_second _ _ _ _ _ _ _ c.link_of.ensures c.in-InSecond.is)
-
-pub returns-in-Neither : goal.returns-in-Neither
-returns-in-Neither c = ask_neither _ _ _ _ c.requires _ _ _ (named_both _ _ _ _ _ _ _ c.both.ensures c.in-Both.is) (link_neither _ _ _ _ _ _ c.link_of.ensures c.in-Neither.is)
+pub returns-in-None : goal.returns-in-None
+returns-in-None c = ask_neither _ _ _ _ c.requires _ _ _ (named_both _ _ _ _ _ _ _ c.both.ensures c.in_ok-ends.was) (link_neither _ _ _ _ _ _ c.link_of.ensures c.in-None.is)

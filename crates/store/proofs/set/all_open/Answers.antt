@@ -1,18 +1,14 @@
--- `store::set::all_open` meets its contract: the places passed are open. Assumes nothing.
-use Rattle.store.proofs.Setting.{opened_start, opened_more, opened_not, opened_all}
+-- `store::set::all_open` meets its contract. Assumes nothing.
+use Rattle.store.proofs.Setting.{open_listed}
+use Rattle.std.proofs.Common.{rules, ◌∙◌}
+use Rattle.std.proofs.lemmas.Iterator.{YieldsList-from_slice}
+use Rattle.std.proofs.lemmas.Iterator.Search.{all_from_yields_List}
+use Rattle.meaning.specs.Day.{day_of}
+use Rattle.meaning.specs.Calls.{open_place}
 use Rattle.store.proofs.set.all_open.Goals as goal
 
-pub loop-i-init : goal.loop-i-init
-loop-i-init c = opened_start _ _
-
-pub is_open-requires : goal.is_open-requires
-is_open-requires c = c.requires
-
-pub returns-then-not-is_open : goal.returns-then-not-is_open
-returns-then-not-is_open c = opened_not _ _ _ _ c.loop-i.invariant c.loop-i-test.true c.is_open.ensures c.if-not-is_open.true
-
-pub loop-i-preserved : goal.loop-i-preserved
-loop-i-preserved c = opened_more _ _ _ _ c.loop-i.invariant c.loop-i-test.true c.is_open.ensures c.if-not-is_open.false
-
 pub returns : goal.returns
-returns c = opened_all _ _ _ c.loop-i.invariant c.loop-i-test.false
+returns c =
+    let s = day_of c.args.table.room.n c.args.table.room.c c.args.table.words.now in
+    all_from_yields_List (open_place s) _ _ _ c.all.ensures.ran (YieldsList-from_slice c.args.places.now c.iter.ensures.rest) (λ x b q k. search rules)
+    ∙ open_listed s c.args.places.now

@@ -1,31 +1,13 @@
--- `store::set::reading` meets its contract: refused by the first test that holds, or the links that were counted are those with both ends in the set. Assumes nothing.
-use Rattle.store.proofs.Setting.{readable, reading_few, reading_falls, reading_shut, reading_marks, reading_done}
-use Rattle.meaning.proofs.Threaded.{sound_threaded}
-use mathlib.Core.Path.{refl}
-use native.Mathlib.Omega.{arith}
+-- `store::set::reading` meets its contract. Assumes nothing.
+use Rattle.store.proofs.Setting.{marks_each, counts_each, reads}
+use mathlib.Core.Path.{refl, sym}
 use Rattle.store.proofs.set.reading.Goals as goal
-use Rattle.store.proofs.set.reading.Goals.{then-places-lt2-via-then-places-lt2, then-places-lt2-via-else-places-lt2+then-not-rising}
-
-pub returns-then-places-lt2 : goal.returns-then-places-lt2
-returns-then-places-lt2 c = elim c.then-places-lt2.branch [
-  | then-places-lt2-via-then-places-lt2 w ↦ reading_few _ _ _ _ c.requires _ w.if-places-lt2.true
-  | then-places-lt2-via-else-places-lt2+then-not-rising w ↦ reading_falls _ _ _ _ c.requires _ _ w.rising.ensures w.if-not-rising.true
-]
-
-pub returns-then-not-all_open : goal.returns-then-not-all_open
-returns-then-not-all_open c = reading_shut _ _ _ _ c.requires _ c.if-places-lt2.false _ c.rising.ensures c.if-not-rising.false _ c.all_open.ensures c.if-not-all_open.true
 
 pub mark-requires : goal.mark-requires
-mark-requires c =
-    let set = readable _ _ _ _ c.requires _ c.if-places-lt2.false _ c.rising.ensures c.if-not-rising.false _ c.all_open.ensures c.if-not-all_open.false in
-    (refl, set.rise, reading_marks _ _ _ _ c.requires _ set _ (omega (arith, c.requires.sized.room)))
+mark-requires c = (refl, sym c.if-not-rising.ensures, marks_each _ _ _ _ c.requires _ c.if-not-all_open.ensures)
 
 pub inside-links-requires : goal.inside-links-requires
-inside-links-requires c =
-    let set = readable _ _ _ _ c.requires _ c.if-places-lt2.false _ c.rising.ensures c.if-not-rising.false _ c.all_open.ensures c.if-not-all_open.false in
-    (sound_threaded _ _ _ _ c.requires, c.requires.aimed, set.below, set.most, omega (arith, c.mark.ensures.long, c.requires.sized.room))
+inside-links-requires c = counts_each _ _ _ _ c.requires _ c.if-not-all_open.ensures c.if-not-rising.ensures _ c.mark.ensures.long
 
 pub returns : goal.returns
-returns c =
-    let set = readable _ _ _ _ c.requires _ c.if-places-lt2.false _ c.rising.ensures c.if-not-rising.false _ c.all_open.ensures c.if-not-all_open.false in
-    reading_done _ _ _ _ c.requires _ set _ _ _ c.mark.ensures c.inside-links.ensures
+returns c = reads _ _ _ _ c.requires _ c.if-not-all_open.ensures c.if-not-rising.ensures c.if-places-lt2.false _ _ _ c.mark.ensures c.inside-links.ensures

@@ -5,7 +5,7 @@ use native.Mathlib.Omega.{arith}
 use Rattle.stream.proofs.carry.put_answer.Goals as goal
 
 pub overflow_cast-answers : goal.overflow_cast-answers
-overflow_cast-answers c = omega (arith, refusal_most c.args.answer, c.refusal-refusal.ensures)
+overflow_cast-answers c = omega (arith, refusal_most c.args.answer, c.refusal_of.ensures)
 
 pub returns : goal.returns
 unfolding written

@@ -1,7 +1,0 @@
--- `table::section::next` meets its contract: the word is read where next_at says. Assumes nothing.
-use mathlib.Core.Path.{ap, ◌∙◌}
-use Rattle.meaning.specs.Table.{word}
-use Rattle.table.proofs.section.next.Goals as goal
-
-pub returns : goal.returns
-returns c = (c.word.ensures.0 ∙ ap (word _) c.next_at.ensures, c.word.ensures.1)

@@ -1,8 +1,0 @@
--- `table::section::run` meets its contract. Assumes nothing.
-use Rattle.meaning.specs.Table.{word}
-use mathlib.Core.Path.{refl}
-use Rattle.table.proofs.section.run.Goals as goal
-
-pub returns : goal.returns
-unfolding word
-returns c = refl

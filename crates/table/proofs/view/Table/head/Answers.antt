@@ -1,0 +1,7 @@
+-- `table::view::Table::head` meets its contract: the word is read where head_at says. Assumes nothing.
+use mathlib.Core.Path.{ap, ◌∙◌}
+use Rattle.meaning.specs.Table.{word}
+use Rattle.table.proofs.view.Table.head.Goals as goal
+
+pub returns : goal.returns
+returns c = (c.word.ensures.0 ∙ ap (word _) c.head_at.ensures, c.word.ensures.1)
