@@ -89,9 +89,11 @@ fn run_day(bytes: &[u8], answers: &mut [u32]) -> Ran
     requires { (length bytes.now ≤ bytes_most) × (length answers.old ≡ answer_words) }
     ensures { DayEnds bytes.now answers.old result answers.new }
 {
+    // Fixed memory: the program has no heap.
     let mut store = [0u32; STORE_WORDS];
     let mut spare = [0u32; STORE_WORDS];
     let mut waiting = [0u32; PLACES];
+    // Never refused: the sizes are within their limits and the table has their length.
     let _ = calls::empty(PLACES, CELLS, &mut store);
     let done = stream::stream(
         PLACES,

@@ -1,5 +1,6 @@
 // Finding in a threaded table: the place of a run, the lowest free place, where a list has a link, whether a link touches a place.
-// It only reads, and knows no call: what is made of what it finds is the caller's.
+// It only reads, and knows no call: what is made of what it finds is the caller's. That a table is threaded is a clause and no fact
+// of the view: the judge reads tables that are not, and after each word that is written it has to be shown anew.
 #![tactic(auto)]
 
 pub mod touch;
@@ -47,7 +48,7 @@ pub struct Spot {
     pub hook: usize,
 }
 
-// Where the list of v has a link to u.
+// Where the list of v has a link to u. The walk is its own, since it ends at the cell and at the word that names it.
 pub fn seek(table: Table, v: usize, u: usize) -> Option<Spot>
     requires { Threaded table.room.n table.room.c table.words.now × (v < table.room.n) }
     ensures { let t = table.entry in Seeks result t.room.n t.room.c t.words.now v u }

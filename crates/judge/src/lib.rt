@@ -51,10 +51,10 @@ fn places(table: Table) -> bool
 }
 
 // The whole test, what costs least first: the lengths, the free list, the names, the places.
-fn sound(table: Table, limit: Limit) -> bool
-    ensures { let t = table.entry in Tells result (Judged t.room.n t.room.c t.words.now limit.d) }
+fn sound(table: Table, d: usize) -> bool
+    ensures { let t = table.entry in Tells result (Judged t.room.n t.room.c t.words.now d) }
 {
-    if !chain::lengths(table, limit.d) {
+    if !chain::lengths(table, d) {
         return false;
     }
     let free = table.room.n;
@@ -76,7 +76,7 @@ pub fn judge(n: usize, c: usize, d: usize, store: &[u32]) -> Result<Sizes, Refus
         words: store,
         room: sizes.room,
     };
-    if !sound(table, sizes.limit) {
+    if !sound(table, sizes.limit.d) {
         return Err(Refusal::Unsound);
     }
     Ok(sizes)

@@ -1,4 +1,5 @@
-// Turning lists over: the place last put to wait is taken, and the cells of its list go over to their targets, front to back.
+// Turning lists over: the place last put to wait is taken, and the cells of its list go over to their targets, front to back. The
+// places that wait are the first `top` words of the waiting table, which is lent, and of which document 01 says what it holds after.
 ghost use Rattle.std.specs.Prelude.{◌+◌, ◌<◌};
 ghost use Rattle.meaning.specs.Table.{length_of};
 ghost use Rattle.lists.specs.Turning.{Walking, Handed, Begins, Ends};
@@ -44,7 +45,7 @@ pub fn turning(
     let mut top: usize = 1;
     let mut turned: usize = 0;
     let mut reversals: usize = 0;
-    let ended = loop {
+    loop {
         if top == 0 {
             break Ok(reversals);
         }
@@ -64,6 +65,5 @@ pub fn turning(
             left -= 1;
         }
         turned += 1;
-    };
-    ended
+    }
 }

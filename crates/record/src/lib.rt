@@ -23,7 +23,7 @@ pub enum Kind {
 }
 
 impl Kind {
-    // The byte of each kind: the reader and the writer take it from here.
+    // The byte of each kind, which stands here once: the patterns of `try_from` and the arms of `from` take it.
     pub const OPEN: u8 = 1;
 
     pub const CLOSE: u8 = 2;

@@ -7,7 +7,7 @@ use crate::{Kind, Record};
 use terms::refusal::Refusal;
 use terms::run::Run;
 
-// A run's line and trip number, which stand at `at`, the high byte first.
+// A run's line and trip number, which stand at `at`, the high byte first: document 01's layout, over the library's conversions.
 #[tactic(auto, unfolding(crate::specs::Bytes::run_at))]
 fn run_at(s: &[u8], at: usize) -> Run
     requires { at + 6 ≤ length s.now }
@@ -19,7 +19,7 @@ fn run_at(s: &[u8], at: usize) -> Run
     }
 }
 
-// Whether the two-byte mark stands first.
+// Whether the two-byte mark stands first: compared whole, as document 01 names it.
 #[tactic(auto, unfolding(crate::specs::Bytes::marked))]
 fn is_marked(s: &[u8]) -> bool
     ensures { result ≡ marked s.now }

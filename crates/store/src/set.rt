@@ -47,7 +47,8 @@ fn mark(marks: &mut [u8], places: &[u32])
     }
 }
 
-// The links in the list of v whose other end is marked. A mark is a byte, so no list of c cells adds up to more than 255c.
+// The links in the list of v whose other end is marked. A mark is a byte, so no list of c cells adds up to more than 255c. The walk
+// adds up, and stops at no cell.
 fn inside_list(table: Table, v: usize, marks: &[u8]) -> usize
     requires { Threaded table.room.n table.room.c table.words.now × Aimed table.room.n table.room.c table.words.now × (v < table.room.n) × (table.room.n ≤ length marks.now) }
     ensures { let t = table.entry in (result ≡ marked marks.now (cells_of t.room.n t.room.c t.words.now v)) × (result ≤ 255 * t.room.c) }
@@ -88,6 +89,7 @@ pub fn reading(store: &[u32], sizes: Sizes, places: &[u32]) -> Answer
     if !all_open(table, places) {
         return Err(Refusal::NotOpen);
     }
+    // Fixed memory: the library has no heap.
     let mut marks = [0u8; Room::PLACES_MOST];
     mark(&mut marks, places);
     let links = inside(table, places, &marks);

@@ -26,7 +26,7 @@ pub struct Streamed {
 }
 
 impl Streamed {
-    // The refusal's number, 0 at the end of the bytes.
+    // The refusal's number, 0 at the end of the bytes, as document 01 has it.
     pub fn refusal(self) -> u64
         ensures { result ≡ stop_number self.stop }
     {
@@ -37,7 +37,8 @@ impl Streamed {
     }
 }
 
-// The records in order: the reader is handed the rest of the stream that starts after the record before, and says where it ends.
+// The records in order: the reader is handed the rest of the stream that starts after the record before, and says where it ends, so
+// no range counts them.
 fn carry_all(
     store: &mut [u32],
     spare: &mut [u32],

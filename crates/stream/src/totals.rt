@@ -15,7 +15,7 @@ pub struct Totals {
 impl Totals {
     pub const MOST: u64 = 4611686018427387904;
 
-    // Brought forward by what a record did: an accepted link counts, with its reversals.
+    // Brought forward by what a record did: an accepted link counts, with its reversals, and nothing else that a record may ask for.
     pub fn forward(self, kind: Kind, answer: Answer) -> Totals
         requires { Small self answer }
         ensures { Forward self kind answer result }

@@ -1,4 +1,4 @@
-// The table with no run and no link, written section by section, each word once.
+// The table with no run and no link, written section by section, each word once. Words and room come apart, as in `step`.
 ghost use Rattle.std.specs.Prelude.{◌+◌, ◌^◌, ◌≤◌, ◌<◌, length, ◌≡◌};
 ghost use Rattle.meaning.specs.Day.{empty_table};
 ghost use Rattle.table.specs.Within.{Within};

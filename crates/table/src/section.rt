@@ -1,4 +1,5 @@
-// Where the words of each section stand, and one of them read as a number to count with.
+// Where the words of each section stand, and one of them read as a number to count with. Each section has a line of its own, as in
+// document 01's list: with the section as a parameter the list would be a `match`, and no caller shorter.
 ghost use Rattle.std.specs.Prelude.{◌^◌, ◌≤◌, ◌<◌, length, ◌≡◌};
 ghost use Rattle.meaning.specs.Table.{word, head_at, length_at, owner_at, target_at, next_at};
 

@@ -1,6 +1,6 @@
 // The steps that write: a place's two words, and a cell that leaves one list and goes to the front of another. The sections'
-// words are read before any is written. A step takes the words and their room apart: a view that lends its words to be written would
-// have to promise, step by step, that it still has the same room and the same words.
+// words are read before any is written. A step takes the words and their room apart, and asks that they fit: a view that lends its
+// words to be written would have to promise, step by step, that it still has the same room and lends the same table.
 ghost use Rattle.std.specs.Prelude.{◌+◌, ◌^◌, ◌<◌, length, ◌≡◌};
 ghost use Rattle.meaning.specs.Table.{written, length_of};
 ghost use Rattle.meaning.proofs.Steps.{listed, celled, renamed, unhooked, hooked};

@@ -35,7 +35,10 @@ run_path p q a b = λ i. record { line = a i; trip = b i }
 
 pub same_yes : (p q : Run) → p.line ≡ q.line → p.trip ≡ q.trip → same_run p q ≡ true
 unfolding same_run
-same_yes p q a b = rw (eq-eqb _ _ a, eq-eqb _ _ b)
+same_yes p q a b =
+    let x : eqb p.line q.line ≡ true = eq-eqb _ _ a in
+    let y : eqb p.trip q.trip ≡ true = eq-eqb _ _ b in
+    simp (x, y)
 
 pub same_refl : (p : Run) → same_run p p ≡ true
 same_refl p = same_yes p p refl refl

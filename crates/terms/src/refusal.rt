@@ -45,7 +45,7 @@ impl From<Refusal> for u64 {
 // What a single call answers: its number where it is done, else why it is refused.
 pub type Answer = Result<u64, Refusal>;
 
-// The refusal number, 0 where the call is done: document 01's first number of an answer.
+// The refusal number, 0 where the call is done: document 01's first number of an answer, a function since an alias has no methods.
 pub fn refusal_of(answer: Answer) -> u64
     ensures { result ≡ refusal_of answer }
 {

@@ -1,7 +1,8 @@
 // The sizes of a store and their limits: each number stands here once. A value of these types is within its limits, and a
-// constructor takes any number that fits a word of the machine.
-ghost use Rattle.terms.specs.Size.{store_words, InRoom, InLimit};
-ghost use Rattle.std.specs.Prelude.{◌≡◌};
+// constructor takes any number that fits a word of the machine. Each type has its own constructor: a trait over the three would have
+// one user for each.
+ghost use Rattle.terms.specs.Size.{store_words, stream_most, InRoom, InLimit};
+ghost use Rattle.std.specs.Prelude.{◌≤◌, ◌≡◌};
 
 // Places for runs and cells for links: what fixes the length of every table.
 #[derive(Clone, Copy)]
@@ -78,6 +79,7 @@ pub struct Sizes {
 #[derive(Clone, Copy)]
 pub struct Length {
     pub bytes: usize,
+    pub ghost within: { bytes ≤ stream_most },
 }
 
 impl Length {

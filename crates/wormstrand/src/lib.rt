@@ -16,7 +16,7 @@ use terms::run::Run;
 // One more than the largest number: the refusal stands above it.
 const NUMBERS: u64 = 4294967296;
 
-// A number that is done has refusal 0, and a refusal has number 0.
+// A number that is done has refusal 0, and a refusal has number 0: the packing that C knows.
 fn pack(answer: Answer) -> u64
     ensures { result ≡ pack answer }
 {
@@ -121,7 +121,7 @@ pub fn ws_reading(n: usize, c: usize, d: usize, store: &[u32], places: &[u32]) -
     pack(calls::reading(n, c, d, store, places))
 }
 
-// A stream that was stopped has both, a refusal and a number.
+// A stream that was stopped has both, a refusal and a number, packed likewise.
 fn pack_result(streamed: Streamed) -> u64
     requires { streamed.carried < 2 ^ 32 }
     ensures { result ≡ pack_result (result_of streamed) }

@@ -12,10 +12,14 @@ pub step-sum-requires : goal.step-sum-requires
 step-sum-requires c = going_step _ _ _ _ _ _ _ _ _ _ _ _ c.loop-why.invariant _ c.read.ensures _ (c.in-Some-Ok.is ∙ ap Some c.in-Some-Ok.field-0-is)
 
 pub slice_bounds-rest-count : goal.slice_bounds-rest-count
-slice_bounds-rest-count c = (going_few _ _ _ _ _ _ _ _ _ _ _ _ c.loop-why.invariant _ c.read.ensures _ (c.in-Some-Ok.is ∙ ap Some c.in-Some-Ok.field-0-is)).1
+slice_bounds-rest-count c =
+    let f = (going_few _ _ _ _ _ _ _ _ _ _ _ _ c.loop-why.invariant _ c.read.ensures _ (c.in-Some-Ok.is ∙ ap Some c.in-Some-Ok.field-0-is)).1 in
+    omega arith
 
 pub slice_bounds-rest-start : goal.slice_bounds-rest-start
-slice_bounds-rest-start c = (going_few _ _ _ _ _ _ _ _ _ _ _ _ c.loop-why.invariant _ c.read.ensures _ (c.in-Some-Ok.is ∙ ap Some c.in-Some-Ok.field-0-is)).1
+slice_bounds-rest-start c =
+    let f = (going_few _ _ _ _ _ _ _ _ _ _ _ _ c.loop-why.invariant _ c.read.ensures _ (c.in-Some-Ok.is ∙ ap Some c.in-Some-Ok.field-0-is)).1 in
+    omega arith
 
 pub loop-why-smaller : goal.loop-why-smaller
 loop-why-smaller c =
