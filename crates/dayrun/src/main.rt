@@ -122,7 +122,7 @@ fn run_day(bytes: &[u8], answers: &mut [u32]) -> Ran
     }
 }
 
-// A line for each record carried out.
+// A line for each record carried out, by its position, as `printed` has it.
 fn print_records(rt: &impl Print, bytes: &[u8], answers: &[u32], carried: usize) -> io::Result<()>
     requires { (record_bytes * carried ≤ length bytes.now) × (2 * carried ≤ length answers.now) }
 {
@@ -136,6 +136,7 @@ fn print_records(rt: &impl Print, bytes: &[u8], answers: &[u32], carried: usize)
 fn day(rt: &impl Print, bytes: &[u8]) -> io::Result<()>
     requires { length bytes.now ≤ bytes_most }
 {
+    // Fixed memory, as in `run_day`.
     let mut answers = [0u32; ANSWER_WORDS];
     let ran = run_day(bytes, &mut answers);
     print_records(rt, bytes, &answers, ran.carried)?;
@@ -161,6 +162,7 @@ fn read_full<R: Read>(from: &mut R, bytes: &mut [u8]) -> io::Result<usize>
 }
 
 fn main(rt: HostRuntime) -> io::Result<()> {
+    // Fixed memory: one byte more than a day may have.
     let mut bytes = [0u8; BYTES + 1];
     let got = read_full(&mut rt.stdin(), &mut bytes)?;
     if got > BYTES {

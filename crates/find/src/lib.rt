@@ -48,7 +48,8 @@ pub struct Spot {
     pub hook: usize,
 }
 
-// Where the list of v has a link to u. The walk is its own, since it ends at the cell and at the word that names it.
+// Where the list of v has a link to u. The walk is its own: it stops at a cell and keeps the word that names it, which an iterator
+// over the cells would not.
 pub fn seek(table: Table, v: usize, u: usize) -> Option<Spot>
     requires { Threaded table.room.n table.room.c table.words.now × (v < table.room.n) }
     ensures { let t = table.entry in Seeks result t.room.n t.room.c t.words.now v u }

@@ -1,5 +1,5 @@
 // Rules 2 and 3: the lengths, and each list as a chain of its own cells that aim right. A walk follows the chain itself, here and in
-// `pair`: what each asks of a cell before it goes on, and where it stands in the end, is its own.
+// `pair`: an iterator over a chain could ask nothing of a cell before it goes on, and nothing is known of these cells yet.
 ghost use Rattle.std.specs.Prelude.{◌≤◌, ◌<◌};
 ghost use Rattle.meaning.proofs.Judged.{Lengths, Aim, CellOk, Walks};
 ghost use Rattle.terms.specs.Tells.{Tells};

@@ -50,7 +50,8 @@ fn bucket(table: Table, v: usize) -> usize
 // No place below v has v's name, if v is open: only the places of v's bucket are compared. `last` is one more than the last of
 // them, 0 where there is none, and `before` says the same of each place for its own bucket. A free place is not compared: the
 // free places are all in one bucket. The positions are words of two bytes in fixed memory, since every judging clears them
-// all: over `Option<u16>` the walk was tried in plain Rust and took 3 times as long with 4,096 places, 43 times with 16.
+// all: over `Option<u16>` the walk was tried in plain Rust and took 3 times as long with 4,096 places, 17 times with 256 and 43
+// times with 16, and the judge has to stay below plain Rust (docs/BENCH.md).
 #[tactic(auto, using(crate::proofs::Buckets::one_bucket))]
 fn fresh(table: Table, v: usize, last: usize, before: &[u16; Room::PLACES_MOST]) -> bool
     requires { (v < table.room.n) × Chains table.room.n table.room.c table.words.now v last before.now }

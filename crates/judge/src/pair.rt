@@ -1,5 +1,5 @@
 // Rule 4: no unordered pair stands in two cells. A cell is held against the cells after it in its own list and against its
-// target's list.
+// target's list. How many cells are left and where they start are two numbers, as `Walks`, `Has` and `Alone` have them.
 ghost use Rattle.std.specs.Prelude.{◌<◌};
 ghost use Rattle.meaning.proofs.Judged.{CellOk, Walks, Has, Lone, Alone};
 ghost use Rattle.terms.specs.Tells.{Tells};

@@ -29,7 +29,7 @@ fn hand(store: &mut [u32], waiting: &mut [u32], room: Room, d: usize, w: usize, 
 
 // Turning, with the place a alone waiting: at most m lists are turned. It ends settled, with the number of reversals, or too dense,
 // where a place still waits then. The walk over a turned list takes its first cell each time, so the list is empty where it ends.
-// Both loops are left by break, as document 01 has it.
+// Both loops are left by break, the inner one by its label: the form that document 01 names (docs/DECISIONS.md).
 pub fn turning(
     store: &mut [u32],
     waiting: &mut [u32],

@@ -75,7 +75,7 @@ impl TryFrom<u8> for Kind {
     }
 }
 
-// Where the kind names one run, the second is line 0, trip 0.
+// Where the kind names one run, the second is line 0, trip 0: two runs always, as the bytes have them.
 #[derive(Clone, Copy, PartialEq, Eq)]
 pub struct Record {
     pub kind: Kind,

@@ -6,7 +6,7 @@ ghost use Rattle.record.specs.Bytes.{run_bytes, bytes_of};
 use crate::Record;
 use terms::run::Run;
 
-// A line has two bytes here: of a line above 65,535 the low two are written.
+// Document 01's layout, over the library's conversions. A line has two bytes here: of a line above 65,535 the low two are written.
 fn run_bytes(run: Run) -> [u8; 6]
     ensures { result ≡ run_bytes run }
 {

@@ -54,7 +54,7 @@ pub fn unlink(store: &mut [u32], sizes: Sizes, p: Run, q: Run) -> Answer
     Ok(0)
 }
 
-// A new link leaves the first run: its cell goes to the front of that run's list. The three tables are lent each by itself, as by C.
+// A new link leaves the first run: its cell goes to the front of that run's list. The three tables come as in `lists`.
 pub fn link(
     store: &mut [u32],
     spare: &mut [u32],

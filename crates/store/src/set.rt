@@ -48,7 +48,7 @@ fn mark(marks: &mut [u8], places: &[u32])
 }
 
 // The links in the list of v whose other end is marked. A mark is a byte, so no list of c cells adds up to more than 255c. The walk
-// adds up, and stops at no cell.
+// is two lines of a `for`: an iterator for it alone would be longer.
 fn inside_list(table: Table, v: usize, marks: &[u8]) -> usize
     requires { Threaded table.room.n table.room.c table.words.now × Aimed table.room.n table.room.c table.words.now × (v < table.room.n) × (table.room.n ≤ length marks.now) }
     ensures { let t = table.entry in (result ≡ marked marks.now (cells_of t.room.n t.room.c t.words.now v)) × (result ≤ 255 * t.room.c) }

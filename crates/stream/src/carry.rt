@@ -12,7 +12,8 @@ use store::{link, run};
 use terms::refusal::{Answer, refusal_of, value_of};
 use terms::size::Sizes;
 
-// The single call that the record asks for: the kinds are five, and each has its own tables.
+// The single call that the record asks for: the kinds are five, and each has its own tables and arguments, so closures for them would
+// be no shorter than the arms. The tables come as in `lists`.
 pub fn carry(
     store: &mut [u32],
     spare: &mut [u32],

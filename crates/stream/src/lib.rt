@@ -72,7 +72,8 @@ fn carry_all(
     }
 }
 
-// The lengths that a stream's tables have beside the store, its bytes' limit and its totals' limit.
+// The lengths that a stream's tables have beside the store, its bytes' limit and its totals' limit: numbers, since nothing is judged
+// yet.
 fn fits(
     n: usize,
     store: usize,

@@ -15,7 +15,8 @@ pub struct Totals {
 impl Totals {
     pub const MOST: u64 = 4611686018427387904;
 
-    // Brought forward by what a record did: an accepted link counts, with its reversals, and nothing else that a record may ask for.
+    // Brought forward by what a record did: an accepted link counts, with its reversals, and nothing else that a
+    // record may ask for: one arm, where a closure for each kind would be five.
     pub fn forward(self, kind: Kind, answer: Answer) -> Totals
         requires { Small self answer }
         ensures { Forward self kind answer result }

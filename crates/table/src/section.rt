@@ -5,7 +5,8 @@ ghost use Rattle.meaning.specs.Table.{word, head_at, length_at, owner_at, target
 
 use terms::size::Room;
 
-// What stands in the head, target and next words where there is no cell or place.
+// What stands in the head, target and next words where there is no cell or place: a number and no Option, since it is a word of the
+// table that the caller lends.
 pub const NONE: usize = 4294967295;
 
 pub fn word(table: &[u32], i: usize) -> usize

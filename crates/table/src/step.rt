@@ -12,6 +12,7 @@ use crate::view::Table;
 use terms::run::Run;
 use terms::size::Room;
 
+// A place, a cell or a count, all of which are positions and so `usize`, becomes a word.
 pub fn put(table: &mut [u32], i: usize, x: usize)
     requires { (i < length table.old) × (x < 2 ^ 32) }
     ensures { table.new ≡ written table.old i x }

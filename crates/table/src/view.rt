@@ -1,5 +1,7 @@
-// A lent table as it is read: its words and the room they are laid out for, which are as many as the room asks for. Each section has
-// a method of its own: `table.head(v)` says what is read, and a section as a parameter would say no more in more words.
+// A lent table as it is read: its words and the room they are laid out for, which are as many as the room asks for. Its cells stay
+// indices in sections side by side, since the caller lends them so. Each section has a method of its own: `table.head(v)` says what is
+// read, and a section as a parameter would say no more in more words. That a place or a cell is within the room is a clause: a type
+// for it would carry the room along, and be made anew of each word that is read.
 ghost use Rattle.std.specs.Prelude.{length, ◌≡◌};
 ghost use Rattle.terms.specs.Size.{store_words};
 

@@ -1,6 +1,6 @@
 // The sizes of a store and their limits: each number stands here once. A value of these types is within its limits, and a
-// constructor takes any number that fits a word of the machine. Each type has its own constructor: a trait over the three would have
-// one user for each.
+// constructor takes any number that fits a word of the machine. Each type has its own constructor: one takes two numbers and two take
+// one, and each answers with a fact of its own, so a trait would share the name alone.
 ghost use Rattle.terms.specs.Size.{store_words, stream_most, InRoom, InLimit};
 ghost use Rattle.std.specs.Prelude.{◌≤◌, ◌≡◌};
 

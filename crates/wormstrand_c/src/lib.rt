@@ -1,5 +1,6 @@
 // The exports for programs in C and Rust, under the names that include/wormstrand.h declares. Each calls the function of its name
-// in wormstrand and states its clauses again, since C's callers link to these; it knows nothing of how an answer is packed.
+// in wormstrand and states its clauses again: C's callers link to these, and the static library has to define them itself. It knows
+// nothing of how an answer is packed.
 #![tactic(auto)]
 
 ghost use Rattle.meaning.specs.Calls.{open_run, close_run, unlink, ask, reading};
