@@ -1,6 +1,8 @@
 -- The proofs of the demands, and how tight the contracts are.
 pub mod Tight
 pub mod Refusals
+pub mod Stops
+pub mod Entry
 pub mod Choices
 pub mod Potential
 pub mod Law
@@ -11,5 +13,9 @@ pub mod Histories
 pub mod Theorems
 pub mod Streams
 pub mod Tables
+pub mod Own
+pub mod Unstopped
+pub mod Promised
+pub mod InTurn
 pub mod Example
 pub mod Sharp

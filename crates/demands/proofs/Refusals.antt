@@ -239,7 +239,7 @@ read_late s rest why later = go (eqb (length s) 0) (record_of s) (record_late s)
     go false (Ok x) l e = later e
     go false (Err x) l e = omega (arith, l, ap number_first e)
 
-stop_late : (k : ℕ) (s : List ℕ) (why : Refusal) → (read_all k s).stop ≡ Some why → number_of WrongMark ≤ number_of why
+pub stop_late : (k : ℕ) (s : List ℕ) (why : Refusal) → (read_all k s).stop ≡ Some why → number_of WrongMark ≤ number_of why
 unfolding read_all
 stop_late zero s why e = absurd (none-some why e)
 stop_late (suc k) s why e = read_late s (read_all k (drop record_bytes s)) why (stop_late k (drop record_bytes s) why) e

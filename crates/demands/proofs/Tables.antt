@@ -15,7 +15,7 @@ use Rattle.demands.specs.Tables.{Doing, single, stream, refused, calls_in, all_c
 use Rattle.demands.proofs.Theorems.{yes_exactly, demand_3, never_dense}
 use Rattle.demands.proofs.Streams.{records_are_calls}
 
-after_append : (D : ℕ) (s : Day) (xs ys : List Call) → after D s (xs ++ ys) ≡ after D (after D s xs) ys
+pub after_append : (D : ℕ) (s : Day) (xs ys : List Call) → after D s (xs ++ ys) ≡ after D (after D s xs) ys
 after_append D s [] ys = refl
 after_append D s (x ∷ xs) ys = after_append D (call D s x).after xs ys
 
@@ -52,11 +52,11 @@ tables_dense n C D xs w e p q X g w' k =
     never_dense n C D (all_calls xs) p q X g (sym (k.answer ∙ ap (λ s. (call D s (link p q)).answer) (tables_hold n C D xs w e).day))
 
 -- ---- what the answers and the totals count
-accepted_append : (D : ℕ) (s : Day) (xs ys : List Call) → accepted D s (xs ++ ys) ≡ accepted D s xs + accepted D (after D s xs) ys
+pub accepted_append : (D : ℕ) (s : Day) (xs ys : List Call) → accepted D s (xs ++ ys) ≡ accepted D s xs + accepted D (after D s xs) ys
 accepted_append D s [] ys = omega arith
 accepted_append D s (x ∷ xs) ys = omega (arith, accepted_append D (call D s x).after xs ys)
 
-reversals_append : (D : ℕ) (s : Day) (xs ys : List Call) → reversals D s (xs ++ ys) ≡ reversals D s xs + reversals D (after D s xs) ys
+pub reversals_append : (D : ℕ) (s : Day) (xs ys : List Call) → reversals D s (xs ++ ys) ≡ reversals D s xs + reversals D (after D s xs) ys
 reversals_append D s [] ys = omega arith
 reversals_append D s (x ∷ xs) ys = omega (arith, reversals_append D (call D s x).after xs ys)
 
@@ -79,7 +79,7 @@ module _ (n C D : ℕ) where
       forward (λ s. reversals D s (map call_of rs)) t.store w t.reversals t'.reversals h.1 (h.0.reversals ∙ (records_are_calls D rs _).2)
   does_reversed w refused w' h = refl
 
-  leads_accepted : (w : List ℕ) → Sound n C D w → (xs : List Doing) (w' : List ℕ) → Leads n C D w xs w' → all_accepted xs ≡ accepted D (day_of n C w) (all_calls xs)
+  pub leads_accepted : (w : List ℕ) → Sound n C D w → (xs : List Doing) (w' : List ℕ) → Leads n C D w xs w' → all_accepted xs ≡ accepted D (day_of n C w) (all_calls xs)
   leads_accepted w s [] w' h = refl
   leads_accepted w s (x ∷ xs) w' h =
       let k : Holds n C D h.0 (after D (day_of n C w) (calls_in x)) = does_hold n C D w s x h.0 h.1 in
@@ -91,7 +91,7 @@ module _ (n C D : ℕ) where
         ap (λ s. accepted D s (all_calls xs)) k.day,
       )
 
-  leads_reversed : (w : List ℕ) → Sound n C D w → (xs : List Doing) (w' : List ℕ) → Leads n C D w xs w' → all_reversed xs ≡ reversals D (day_of n C w) (all_calls xs)
+  pub leads_reversed : (w : List ℕ) → Sound n C D w → (xs : List Doing) (w' : List ℕ) → Leads n C D w xs w' → all_reversed xs ≡ reversals D (day_of n C w) (all_calls xs)
   leads_reversed w s [] w' h = refl
   leads_reversed w s (x ∷ xs) w' h =
       let k : Holds n C D h.0 (after D (day_of n C w) (calls_in x)) = does_hold n C D w s x h.0 h.1 in

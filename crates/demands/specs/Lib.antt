@@ -2,3 +2,9 @@
 pub mod History
 pub mod Demands
 pub mod Tables
+pub mod Own
+pub mod Unstopped
+pub mod Streaming
+pub mod Entry
+pub mod Promised
+pub mod InTurn
