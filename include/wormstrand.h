@@ -2,7 +2,7 @@
  * Wormstrand: open train runs and the links between them, in tables of 32-bit words that the caller lends.
  *
  * Link a program with libwormstrand.a, which `tools/archive` writes for x86-64 Linux. The library keeps nothing between calls,
- * allocates nothing and calls nothing outside itself but memset and memmove; calls on different tables may run at the same time.
+ * allocates nothing and calls nothing outside itself but memset; calls on different tables may run at the same time.
  *
  * Sizes
  *   n  places for runs   1 to 4,096

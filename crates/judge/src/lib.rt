@@ -50,7 +50,9 @@ fn places(table: Table) -> bool
     (0..table.room.n).all(|v| place(table, v))
 }
 
-// The whole test, what costs least first: the lengths, the free list, the names, the places.
+// The whole test, what costs least first: the lengths, the free list, the names, the places. It stays a call of its own, so that wrong
+// sizes are refused before the buckets of the names have their place on the stack.
+#[inline(never)]
 fn sound(table: Table, d: usize) -> bool
     ensures { let t = table.entry in Tells result (Judged t.room.n t.room.c t.words.now d) }
 {

@@ -8,6 +8,7 @@ ghost use Rattle.lists.specs.Join.{Settling, Settles, Joins, Joined};
 use crate::cell;
 use crate::turning::turning;
 use table::view::Table;
+use table::whole;
 use terms::refusal::{Answer, Refusal};
 use terms::size::{Room, Sizes};
 
@@ -40,7 +41,7 @@ fn settle(
     let ended = turning(store, waiting, sizes.room, sizes.limit.d, links, u);
     waiting.fill(0);
     if ended.is_err() {
-        store.copy_from_slice(spare);
+        whole::copy(spare, store);
     }
     ended
 }
@@ -66,7 +67,7 @@ pub fn join(
         add(store, room, u, v);
         return Ok(0);
     }
-    spare.copy_from_slice(store);
+    whole::copy(store, spare);
     add(store, room, u, v);
     let reversals = settle(store, spare, waiting, sizes, u)?;
     Ok(reversals as u64)

@@ -6,3 +6,4 @@ pub mod empty;
 pub mod section;
 pub mod step;
 pub mod view;
+pub mod whole;

@@ -10,13 +10,13 @@ pub returns-then-count-sizes : goal.returns-then-count-sizes
 returns-then-count-sizes c = join_short _ _ _ _ _ _ _ _ c.requires _ c.count.ensures.0 c.if-count-eq0.false _ c.add.ensures _ c.count-2.ensures.0 c.if-count-sizes.true
 
 pub settle-requires : goal.settle-requires
-settle-requires c = join_settling _ _ _ _ _ _ _ _ c.requires _ c.count.ensures.0 c.if-count-eq0.false _ c.add-2.ensures _ c.count-2.ensures.0 c.if-count-sizes.false _ c.copy_from_slice.ensures.after
+settle-requires c = join_settling _ _ _ _ _ _ _ _ c.requires _ c.count.ensures.0 c.if-count-eq0.false _ c.add-2.ensures _ c.count-2.ensures.0 c.if-count-sizes.false _ c.copy.ensures
 
 pub returns-in_err-reversals : goal.returns-in_err-reversals
 returns-in_err-reversals c =
     let p = err_from_is_err_and c.from_residual.result c.from_residual.ensures.1 in
     rw (p.1, p.2)
-    (join_dense _ _ _ _ _ _ _ _ c.requires _ c.count.ensures.0 c.if-count-eq0.false _ c.add-2.ensures _ c.count-2.ensures.0 c.if-count-sizes.false _ c.copy_from_slice.ensures.after _ _ _ c.settle.ensures _ c.in_err-reversals.was)
+    (join_dense _ _ _ _ _ _ _ _ c.requires _ c.count.ensures.0 c.if-count-eq0.false _ c.add-2.ensures _ c.count-2.ensures.0 c.if-count-sizes.false _ c.copy.ensures _ _ _ c.settle.ensures _ c.in_err-reversals.was)
 
 pub returns : goal.returns
-returns c = join_settled _ _ _ _ _ _ _ _ c.requires _ c.count.ensures.0 c.if-count-eq0.false _ c.add-2.ensures _ c.count-2.ensures.0 c.if-count-sizes.false _ c.copy_from_slice.ensures.after _ _ _ c.settle.ensures _ c.in_ok-reversals.was
+returns c = join_settled _ _ _ _ _ _ _ _ c.requires _ c.count.ensures.0 c.if-count-eq0.false _ c.add-2.ensures _ c.count-2.ensures.0 c.if-count-sizes.false _ c.copy.ensures _ _ _ c.settle.ensures _ c.in_ok-reversals.was
