@@ -49,7 +49,9 @@ pub fn unlink(store: &mut [u32], sizes: Sizes, p: Run, q: Run) -> Answer
     let room = sizes.room;
     let table = Table { words: store, room };
     let ends = find::both(table, p, q)?;
-    let spot = find::link_of(table, ends.first, ends.second).ok_or(Refusal::NoLink)?;
+    let Some(spot) = find::link_of(table, ends.first, ends.second) else {
+        return Err(Refusal::NoLink);
+    };
     free(store, room, spot);
     Ok(0)
 }
