@@ -2,7 +2,7 @@
 use Prim.Native.Nat.{ℕ, ◌+◌, ◌≤◌, ◌-◌, ◌<◌}
 use mathlib.Core.Bool.{Bool, true, false}
 use mathlib.Core.List.{List}
-use mathlib.Core.Logic.{◌⊎◌, inr}
+use mathlib.Core.Logic.{◌⊎◌}
 use mathlib.Core.Path.{◌≡◌, refl, sym, ap, subst, ◌∙◌}
 use native.Mathlib.Numerals.{add-one}
 use native.Mathlib.Omega.{arith}
@@ -91,6 +91,12 @@ module _ (n C : ℕ) (w : List ℕ) where
 
 -- what an answer that is known by its case says
 module _ (n C : ℕ) (w : List ℕ) (u v : ℕ) where
+  pub seen_at : (r : Option Spot) (s : Spot) → Seeks r n C w u v → r ≡ Some s → Spotted s n C w u v
+  seen_at r s h e = subst (λ (x : Option Spot). Seeks x n C w u v) e h
+
+  pub seen_nowhere : (r : Option Spot) → Seeks r n C w u v → r ≡ None → Absent n C w u v
+  seen_nowhere r h e = subst (λ (x : Option Spot). Seeks x n C w u v) e h
+
   pub link_some : (r : Option Spot) (s : Spot) → Links r n C w u v → r ≡ Some s → Spotted s n C w u v ⊎ (Absent n C w u v × Spotted s n C w v u)
   link_some r s h e = subst (λ (x : Option Spot). Links x n C w u v) e h
 

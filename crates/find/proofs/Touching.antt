@@ -43,7 +43,7 @@ module _ (n C : ℕ) (w : List ℕ) where
         let a : row_sum (λ c. 1) l ≤ row_sum (ends v v) l = row_sum-le (λ c. 1) (ends v v) l (λ c. omega (arith, same_eq v v refl)) in
         some (omega (arith, part v hv, row_sum_one l, list_length n C w T v (omega arith), d))
 
-    aimed_touched : (i : ℕ) → i < C → target_of n C w i ≡ v → true ≡ touched (day_of n C w) v
+    pub aimed_touched : (i : ℕ) → i < C → target_of n C w i ≡ v → true ≡ touched (day_of n C w) v
     aimed_touched i h t =
         let u : ℕ = owner_of n C w i in
         let p : (u ≤ n) × (times i (held n C w u) ≡ 1) = parted n C w (omega (arith, T.room)) T.reaches T.whole i h in
@@ -63,7 +63,7 @@ module _ (n C : ℕ) (w : List ℕ) where
         ]
 
     -- the list of v is empty, and no cell aims at v
-    untouched : length_of n C w v ≡ 0 → ((k : ℕ) → k < C → target_of n C w k ≡ v → ⊥) → false ≡ touched (day_of n C w) v
+    pub untouched : length_of n C w v ≡ 0 → ((k : ℕ) → k < C → target_of n C w k ≡ v → ⊥) → false ≡ touched (day_of n C w) v
     unfolding cells
     untouched bare unaimed =
         let z : sum (ends v) (day_of n C w).lists ≡ 0 = rows_none (ends v) (day_of n C w).lists (λ u p. row u (rw (each_length n (cells_of n C w)) at p)) in

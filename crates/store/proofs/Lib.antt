@@ -5,3 +5,4 @@ pub mod Linking
 pub mod Rising
 pub mod Setting
 pub mod Relating
+pub mod Reading

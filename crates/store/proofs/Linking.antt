@@ -103,13 +103,13 @@ module _ (n C D : ℕ) (w : List ℕ) (s : Sound n C D w) (p q : Run) where
         (rw m (unlink_moves n C w T u k.position hu (rw h.list at h.spot.within)).threaded)
         (rw (m, spot_seek n C w T u x hu k h) (unlink_cut n C w T u x hu (spot_within n C w T u x hu k h)))
 
-    unlink_first : (k : Spot) (w' : List ℕ) → Spotted k n C w e.first e.second → w' ≡ moved n C w k.list k.position n NONE → Carries n C D (unlink p q) w (Ok 0) w'
+    pub unlink_first : (k : Spot) (w' : List ℕ) → Spotted k n C w e.first e.second → w' ≡ moved n C w k.list k.position n NONE → Carries n C D (unlink p q) w (Ok 0) w'
     unfolding no_such
     unlink_first k w' h m =
         cuts e.first e.second k w' f.first_place h
         (past ∙ rw (← f.first, ← f.second, in_first k h, do_unlink, has_link n C w T e.first e.second f.first_place k h, f.first, f.second)) m
 
-    unlink_second : (k : Spot) (w' : List ℕ) → Absent n C w e.first e.second × Spotted k n C w e.second e.first
+    pub unlink_second : (k : Spot) (w' : List ℕ) → Absent n C w e.first e.second × Spotted k n C w e.second e.first
         → w' ≡ moved n C w k.list k.position n NONE → Carries n C D (unlink p q) w (Ok 0) w'
     unfolding no_such
     unlink_second k w' h m =

@@ -24,13 +24,13 @@ use Rattle.meaning.proofs.Same.{same_eq, same_ne}
 abbrev pub Falls : List ℕ → Type 0
 Falls ps = (k : ℕ) × (k + 1 < length ps) × (get_or ps (k + 1) 0 ≤ get_or ps k 0)
 
-rising_falls : (ps : List ℕ) (k : ℕ) → suc k < length ps → get_or ps (suc k) 0 ≤ get_or ps k 0 → rising ps ≡ false
+pub rising_falls : (ps : List ℕ) (k : ℕ) → suc k < length ps → get_or ps (suc k) 0 ≤ get_or ps k 0 → rising ps ≡ false
 rising_falls [] k h e = absurd (omega arith)
 rising_falls (p ∷ []) k h e = absurd (omega arith)
 rising_falls (p ∷ q ∷ ps) zero h e = rw (rising, le-ltb p q e)
 rising_falls (p ∷ q ∷ ps) (suc k) h e = and_false (ltb p q) (rising (q ∷ ps)) (rising_falls (q ∷ ps) k (omega arith) e)
 
-rising_rises : (ps : List ℕ) → ((k : ℕ) → suc k < length ps → get_or ps k 0 < get_or ps (suc k) 0) → rising ps ≡ true
+pub rising_rises : (ps : List ℕ) → ((k : ℕ) → suc k < length ps → get_or ps k 0 < get_or ps (suc k) 0) → rising ps ≡ true
 rising_rises [] f = refl
 rising_rises (p ∷ []) f = refl
 rising_rises (p ∷ q ∷ ps) f = rw (rising, lt-ltb p q (f 0 (omega arith))) (rising_rises (q ∷ ps) (λ k h. f (suc k) (omega arith)))

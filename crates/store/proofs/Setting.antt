@@ -39,7 +39,7 @@ module _ (s : Day) where
   open_listed (p ∷ ps) = ap (λ b. open_place s p && b) (open_listed ps)
 
   -- then every place is below n
-  open_below : (ps : List ℕ) → all_open s ps ≡ true → AllBelow (length s.runs) ps
+  pub open_below : (ps : List ℕ) → all_open s ps ≡ true → AllBelow (length s.runs) ps
   open_below ps e k h = ltb-true _ _ (and_true _ _ (AllPass-from_list_all (open_place s) ps (open_listed ps ∙ e) k 0 h)).0
 
 -- ---- adding up over a set
@@ -51,7 +51,7 @@ sum_same f g m (p ∷ ps) b e =
     omega (arith, sum_by-cons f p ps, sum_by-cons g p ps, e p (b 0 (omega arith)), sum_same f g m ps (λ k h. b (suc k) (omega arith)) e)
 
 -- a sum over the links that stand in the lists of a set's places
-sum_of_set : (g : Cell → ℕ) (ps : List ℕ) (ls : Lists) → sum (λ v c. in_set ps v * g c) ls ≡ sum_by (λ p. row_sum g (list ls p)) ps
+pub sum_of_set : (g : Cell → ℕ) (ps : List ℕ) (ls : Lists) → sum (λ v c. in_set ps v * g c) ls ≡ sum_by (λ p. row_sum g (list ls p)) ps
 sum_of_set g [] ls = sum-zero (λ v c. 0 * g c) ls (λ v c. omega arith)
 sum_of_set g (p ∷ ps) ls =
     sum_ext (λ v c. (same p v + in_set ps v) * g c) (λ v c. same p v * g c + in_set ps v * g c) ls (λ v c. add-mul (same p v) (in_set ps v) (g c))

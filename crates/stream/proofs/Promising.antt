@@ -89,7 +89,7 @@ module _ (n C D : ℕ) (bytes store spare waiting answers : List ℕ) (t : Total
     ]
 
     module _ (k : Sizes) (q : j ≡ Ok k) where
-      is_sound : StreamLent n C D bytes before × Sound n C D store
+      pub is_sound : StreamLent n C D bytes before × Sound n C D store
       is_sound = let z : Sound n C D store = (judged_ok n C D store j says k q).3 in (fits_lent fit z.sized, z)
 
       pub own_lent : StreamLent k.room.n k.room.c k.limit.d bytes before × Sound k.room.n k.room.c k.limit.d store

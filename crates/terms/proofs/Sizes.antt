@@ -12,3 +12,9 @@ room_within a r n C e t = subst (λ (x : Option Room). RoomTold x n C) e t
 
 pub room_outside : (a : Option Room) (n C : ℕ) → a ≡ None → RoomTold a n C → InRoom n C → ⊥
 room_outside a n C e t = subst (λ (x : Option Room). RoomTold x n C) e t
+
+pub limit_within : (a : Option Limit) (l : Limit) (D : ℕ) → a ≡ Some l → LimitTold a D → (l.d ≡ D) × InLimit D
+limit_within a l D e t = subst (λ (x : Option Limit). LimitTold x D) e t
+
+pub limit_outside : (a : Option Limit) (D : ℕ) → a ≡ None → LimitTold a D → InLimit D → ⊥
+limit_outside a D e t = subst (λ (x : Option Limit). LimitTold x D) e t
