@@ -1,5 +1,5 @@
 -- A reading by its tests, one after the other: a pass over the set's places, what each test that fails refuses, and what holds where none
--- does. The check shows `reading` without these laws; docs/PORT.md names them. Assumes nothing.
+-- does. The check shows `reading` without these laws; docs/PORT.md names five of them. Assumes nothing.
 use Prim.Native.Nat.{ℕ, zero, suc, ◌+◌, ◌≤◌, ◌<◌}
 use mathlib.Core.Bool.{Bool, true, false, not, ◌||◌}
 use mathlib.Core.List.{List, [], ◌∷◌}

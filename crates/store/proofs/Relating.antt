@@ -47,10 +47,11 @@ module _ (n C D : ℕ) (w spare waiting : List ℕ) (lent : Lent n C D w spare w
     unfolding last_tests
     already h = stays Already (judged (Some Already) (f.passed last_tests ∙ rw (← f.first, ← f.second, h)))
 
-    pub link_already : (r : Option Spot) → Links r n C w e.first e.second → is_some r ≡ true → LinkCarries n C D p q w spare waiting (Err Already) w spare waiting
-    link_already r l h =
+    pub link_already : (r : Option Spot) → Links r n C w e.first e.second → is_some r ≡ true → (a : Answer) → a ≡ Err Already
+        → LinkCarries n C D p q w spare waiting a w spare waiting
+    link_already r l h a i =
         let k = something r h in
-        already (in_either n C D w s p q e f k.0 (link_some n C w e.first e.second r k.0 l k.1))
+        rw i (already (in_either n C D w s p q e f k.0 (link_some n C w e.first e.second r k.0 l k.1)))
 
     pub link_apart : (r : Option Spot) → Links r n C w e.first e.second → is_some r ≡ false → Absent n C w e.first e.second × Absent n C w e.second e.first
     link_apart r l h = link_neither n C w e.first e.second r l (nothing r h)

@@ -1,4 +1,5 @@
 -- `store::link::link` meets its contract: each answer is the law of its case. Assumes nothing.
+use borrow.Author.Rules.{rules}
 use Rattle.std.proofs.lemmas.Result.{err_from_is_err_and}
 use Rattle.find.proofs.Finding.{named_both, named_barred}
 use Rattle.store.proofs.Linking.{found_two}
@@ -14,7 +15,7 @@ pub link_of-requires : goal.link_of-requires
 link_of-requires c = found_two _ _ _ _ _ _ _ c.requires.1 (named_both _ _ _ _ _ _ _ c.both.ensures c.in_ok-ends.was)
 
 pub returns-then-is_some : goal.returns-then-is_some
-returns-then-is_some c = link_already _ _ _ _ _ _ c.requires.0 c.requires.1 _ _ _ (named_both _ _ _ _ _ _ _ c.both.ensures c.in_ok-ends.was) _ c.link_of.ensures (cc)
+returns-then-is_some c = link_already _ _ _ _ _ _ c.requires.0 c.requires.1 _ _ _ (named_both _ _ _ _ _ _ _ c.both.ensures c.in_ok-ends.was) _ c.link_of.ensures (cc) _ (search rules)
 
 pub join-requires : goal.join-requires
 join-requires c =
