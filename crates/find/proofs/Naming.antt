@@ -12,6 +12,12 @@ use Rattle.find.specs.Find.{Placed, Found, Barred}
 use Rattle.find.proofs.Finding.{placed_at, found_open, found_shut}
 
 module _ (n C : ℕ) (w : List ℕ) (p q : Run) where
+  pub first_bad : bad_name p ≡ true → Barred n C w p q BadName
+  first_bad e = record { bars = λ ts. rw e }
+
+  pub second_bad : bad_name p ≡ false → bad_name q ≡ true → Barred n C w p q BadName
+  second_bad e f = record { bars = λ ts. rw (e, f) }
+
   module _ (good-p : bad_name p ≡ false) (good-q : bad_name q ≡ false) where
     pub one_run : same_run p q ≡ true → Barred n C w p q SameRun
     one_run e = record { bars = λ ts. rw (good-p, good-q, e) }

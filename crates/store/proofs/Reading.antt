@@ -10,7 +10,6 @@ use lib.ListN.{length, get_or}
 use borrow.Author.Count.{below_more}
 use borrow.Author.Tests.{lt-ltb, le-ltb}
 use Rattle.std.specs.Prelude.{Err}
-use Rattle.terms.specs.Refusal.{Answer}
 use Rattle.terms.specs.declared.refusal.Refusal.TheVariants.{NotOpen, BadSet}
 use Rattle.meaning.specs.Soundness.{Sound}
 use Rattle.meaning.specs.Day.{Day, day_of}
@@ -49,17 +48,14 @@ either_true true b e = refl
 either_true false b e = e
 
 module _ (n C D : ℕ) (w : List ℕ) (s : Sound n C D w) (ps : List ℕ) where
-  abbrev Carried : Answer → Type 0
-  Carried a = Carries n C D (reading ps) w a w
-
-  bad : bad_set ps ≡ true → Carried (Err BadSet)
+  bad : bad_set ps ≡ true → Carries n C D (reading ps) w (Err BadSet) w
   bad e = refuses n C D (reading ps) w s BadSet (rw e)
 
   -- fewer than two places, or not strictly rising
-  pub reading_few : length ps < 2 → Carried (Err BadSet)
+  pub reading_few : length ps < 2 → Carries n C D (reading ps) w (Err BadSet) w
   reading_few h = bad (rw (lt-ltb (length ps) 2 h))
 
-  pub reading_falls : (b : Bool) → b ≡ rising ps → b ≡ false → Carried (Err BadSet)
+  pub reading_falls : (b : Bool) → b ≡ rising ps → b ≡ false → Carries n C D (reading ps) w (Err BadSet) w
   reading_falls b e f = bad (either_true (ltb (length ps) 2) (not (rising ps)) (rw (← e) (ap not f)))
 
   good : 2 ≤ length ps → rising ps ≡ true → bad_set ps ≡ false
@@ -67,7 +63,7 @@ module _ (n C D : ℕ) (w : List ℕ) (s : Sound n C D w) (ps : List ℕ) where
 
   -- a place in the set isn't open
   pub reading_shut : 2 ≤ length ps → (b : Bool) → b ≡ rising ps → b ≡ true → (a : Bool) → a ≡ all_open (day_of n C w) ps → a ≡ false
-      → Carried (Err NotOpen)
+      → Carries n C D (reading ps) w (Err NotOpen) w
   reading_shut two b e f a g h = refuses n C D (reading ps) w s NotOpen (rw (good two (sym e ∙ f), sym g ∙ h))
 
   -- no refusal holds
